@@ -1,0 +1,11 @@
+pub mod FieldLaws
+pub mod ByteWise
+pub mod PutLaws
+pub mod RowLaws
+pub mod TableLaws
+pub mod AppendLaws
+pub mod RunLaws
+pub mod XorLaws
+pub mod Below
+pub mod SomeLaws
+pub mod ByteLaws

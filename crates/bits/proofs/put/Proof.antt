@@ -1,0 +1,63 @@
+use borrow.Author.Needs.{needs}
+use native.Mathlib.Omega.{arith}
+use Prim.Native.Nat.{ℕ, zero, suc, _+_, _*_, _-_, _/_, _%_, _^_, _≤_, _<_}
+use mathlib.Core.Path.{_≡_, sym, ap, _∙_, refl, subst}
+use lib.ListN.{length}
+use Rattle.bits.proofs.PutLaws.{put-step, put-none, length-setBit}
+use Rattle.bits.specs.Bits.{putAt, setBit}
+use Rattle.bits.proofs.put.Statement.{statement}
+use Rattle.bits.proofs.put.Tie as tie
+use Rattle.bits.proofs.put.Reads as reads
+use Rattle.bits.proofs.put.Lts as lts
+use Rattle.bits.proofs.set_bit.Reads as set-bit-reads
+
+abbrev Inv-loop : tie.InvT-loop
+Inv-loop room₀ at n v x₀ k₀ room x k = (k ≤ n) × (length room ≡ length room₀) × (putAt room at k x ≡ putAt room₀ at n v)
+
+abbrev μ-loop : tie.MeasureT-loop
+μ-loop room₀ at n v x₀ k₀ room x k = k
+
+loop-holds : tie.Need-loop-holds Inv-loop μ-loop
+loop-holds c = (omega arith, refl, refl)
+
+sub-k : tie.Need-sub-k Inv-loop μ-loop
+sub-k c = omega arith
+
+cast-set-bit : tie.Need-cast-set-bit Inv-loop μ-loop
+cast-set-bit c = omega arith
+
+set-bit-requires : tie.Need-set-bit-requires Inv-loop μ-loop
+set-bit-requires c κs = omega arith
+
+loop-less : tie.Need-loop-less Inv-loop μ-loop
+loop-less c = omega arith
+
+loop-again : tie.Need-loop-again Inv-loop μ-loop
+loop-again c =
+    let i = c .before .before .before .before .before .loop in
+    let a = c .before .before .before .before .before .before .before .args in
+    (omega arith, c .before .before .set-bit .kept .0 ∙ i .inv .1, cc (put-step (i .room) (a .at) (i .k) (i .x) (omega arith)))
+
+same-length : tie.Need-same-length Inv-loop μ-loop
+same-length c = c .before .loop .inv .1
+
+returns : tie.Need-returns Inv-loop μ-loop
+returns c =
+    let i = c .before .loop in
+    let e : i .k ≡ 0 = omega arith in
+    sym (put-none _ _ _) ∙ rw e at (i .inv .2)
+
+pub put-spec : {M : Type 1} → statement M
+put-spec =
+    tie.close
+    (tie.spec
+    Inv-loop
+    μ-loop
+    loop-holds
+    sub-k
+    cast-set-bit
+    set-bit-requires
+    loop-less
+    loop-again
+    same-length
+    returns)

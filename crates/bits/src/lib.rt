@@ -1,0 +1,142 @@
+// Bits and fields of bytes, high bit first. Bits past the end are 0.
+ghost use mathlib.Core.Path.{_≡_};
+ghost use Prim.Native.Nat.{_+_, _-_, _*_, _/_, _%_, _<_, _≤_, _^_, min};
+ghost use lib.ListN.{length, getD};
+ghost use Rattle.bits.specs.Bits.{bitAt, gotAt, setBit, putAt, byteWith, putsAt};
+
+// Bit i; 0 past the end.
+pub fn bit(s: &[u8], i: usize) -> u8
+    ensures { λ r. ⌜ r ≡ bitAt (now (s .entry)) i ⌝ }
+{
+    let at = i / 8;
+    let by = 7 - i % 8;
+    if at < s.len() { (s[at] >> by) % 2 } else { 0 }
+}
+
+// Byte j; 0 past the end.
+fn byte_at(s: &[u8], j: usize) -> u64
+    ensures { λ r. ⌜ r ≡ getD (now (s .entry)) j 0 ⌝ }
+{
+    if j < s.len() { s[j] as u64 } else { 0 }
+}
+
+// The m bits of a byte from bit r on, after those in x.
+fn more(x: u64, b: u64, r: usize, m: usize) -> u64
+    requires { ⌜ (r + m ≤ 8) × (x * 2 ^ m + b / 2 ^ (8 - r - m) % 2 ^ m < 2 ^ 64) ⌝ }
+    ensures { λ y. ⌜ y ≡ x * 2 ^ m + b / 2 ^ (8 - r - m) % 2 ^ m ⌝ }
+{
+    let h = 8 - r - m;
+    let p = 1u64 << m;
+    x * p + (b >> h) % p
+}
+
+// The lesser of two numbers.
+fn least(a: usize, b: usize) -> usize
+    ensures { λ y. ⌜ y ≡ min a b ⌝ }
+{
+    if a < b { a } else { b }
+}
+
+// The field of n bits from bit at on, a byte a turn; more than 64 bits: 0.
+pub fn get(s: &[u8], at: usize, n: usize) -> u64
+    ensures { λ r. ⌜ r ≡ gotAt 64 (now (s .entry)) at n ⌝ }
+{
+    if n > 64 {
+        return 0;
+    }
+    let mut x: u64 = 0;
+    let mut left = n;
+    let mut j = at / 8;
+    let mut r = at % 8;
+    while 0 < left {
+        let b = byte_at(s, j);
+        let m = least(left, 8 - r);
+        x = more(x, b, r, m);
+        left -= m;
+        j += 1;
+        r = 0;
+    }
+    x
+}
+
+// The field of n bits from bit at on; more than 8 bits: 0.
+pub fn get8(s: &[u8], at: usize, n: usize) -> u8
+    ensures { λ r. ⌜ r ≡ gotAt 8 (now (s .entry)) at n ⌝ }
+{
+    if n > 8 {
+        return 0;
+    }
+    get(s, at, n) as u8
+}
+
+// The field of n bits from bit at on; more than 16 bits: 0.
+pub fn get16(s: &[u8], at: usize, n: usize) -> u16
+    ensures { λ r. ⌜ r ≡ gotAt 16 (now (s .entry)) at n ⌝ }
+{
+    if n > 16 {
+        return 0;
+    }
+    get(s, at, n) as u16
+}
+
+// The field of n bits from bit at on; more than 32 bits: 0.
+pub fn get32(s: &[u8], at: usize, n: usize) -> u32
+    ensures { λ r. ⌜ r ≡ gotAt 32 (now (s .entry)) at n ⌝ }
+{
+    if n > 32 {
+        return 0;
+    }
+    get(s, at, n) as u32
+}
+
+// The byte x with its bit of weight 2 ^ h made b.
+fn with_bit(x: u64, h: u64, b: u64) -> u64
+    requires { ⌜ (x < 256) × (h < 8) × (b < 2) ⌝ }
+    ensures { λ r. ⌜ r ≡ byteWith x h b ⌝ }
+{
+    let q = (x >> h) / 2 * 2 + b;
+    let p = 1u64 << h;
+    q * p + x % p
+}
+
+// Bit k after bit at is made b.
+fn set_bit(room: &mut [u8], at: usize, k: usize, b: u64)
+    requires { ⌜ (k < 256) × (b < 2) ⌝ }
+    ensures { λ r. ⌜ now (room .exit) ≡ setBit (now (room .entry)) (at + k) b ⌝ }
+{
+    let m = at % 8 + k;
+    let j = at / 8 + m / 8;
+    if j < room.len() {
+        let x = room[j] as u64;
+        let h = 7 - m % 8;
+        room[j] = with_bit(x, h as u64, b) as u8;
+    }
+}
+
+// The n low bits of v are put from bit at on; bits past the end are lost.
+pub fn put(room: &mut [u8], at: usize, n: u8, v: u64)
+    ensures { λ r. ⌜ now (room .exit) ≡ putAt (now (room .entry)) at n v ⌝ }
+{
+    let mut x = v;
+    let mut k = n;
+    while 0 < k {
+        k -= 1;
+        set_bit(room, at, k as usize, x % 2);
+        x = x / 2;
+    }
+}
+
+// A row of eight fields is put from bit at on: value i in width i. A width of 0 is no field.
+pub fn puts(room: &mut [u8], at: u32, ws: [u8; 8], vs: [u64; 8])
+    ensures { λ r. ⌜ now (room .exit) ≡ putsAt (now (room .entry)) at ws vs ⌝ }
+{
+    let mut a = at as usize;
+    let mut i: usize = 0;
+    while i < 8 {
+        let w = ws[i];
+        let v = vs[i];
+        put(room, a, w, v);
+        a += w as usize;
+        i += 1;
+    }
+}
