@@ -1,0 +1,4 @@
+pub mod SignedLaws
+pub mod ScaleLaws
+pub mod UraLaws
+pub mod SlotLaws

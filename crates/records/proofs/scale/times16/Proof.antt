@@ -1,0 +1,21 @@
+use native.Mathlib.Omega.{arith}
+use mir.Facts.{toZ-ofZ}
+use Rattle.records.proofs.ScaleLaws.{wider, scaled}
+use Rattle.records.proofs.scale.times16.Statement.{statement}
+use Rattle.records.proofs.scale.times16.Tie as tie
+
+cast-result : tie.Need-cast-result
+cast-result c = rw (toZ-ofZ (c .fits .raw)) (wider (c .args .raw) (c .fits .raw))
+
+mul-result : tie.Need-mul-result
+mul-result c =
+    let z = c .args .raw in
+    rw (toZ-ofZ (c .fits .raw), toZ-ofZ (wider z (c .fits .raw))) (scaled 16 z (omega arith) (c .fits .raw))
+
+returns : tie.Need-returns
+returns c =
+    let z = c .args .raw in
+    rw (toZ-ofZ (c .fits .raw), toZ-ofZ (wider z (c .fits .raw)), toZ-ofZ (scaled 16 z (omega arith) (c .fits .raw)))
+
+pub times16-spec : {M : Type 1} → statement M
+times16-spec = tie.close (tie.spec cast-result mul-result returns)

@@ -1,0 +1,5 @@
+pub mod Signed
+pub mod Ura
+pub mod Orbit
+pub mod Clock
+pub mod Slots

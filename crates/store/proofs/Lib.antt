@@ -1,0 +1,7 @@
+pub mod StoreLaws
+pub mod HeldLaws
+pub mod DropLaws
+pub mod DigitLaws
+pub mod SignLaws
+pub mod PastLaws
+pub mod WalkLaws

@@ -1,0 +1,5 @@
+pub mod Store
+pub mod Held
+pub mod Drop
+pub mod Digits
+pub mod Walk

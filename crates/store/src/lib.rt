@@ -1,0 +1,58 @@
+// What is kept by slot and looked back for: its definitions and laws, and the bytes of small numbers in lent room.
+ghost use mathlib.Core.Path.{_≡_};
+ghost use Rattle.bits.specs.Bytes.{storeAt};
+ghost use Rattle.store.specs.Digits.{flagOf, zigOf, zagOf, pairOf, quadOf};
+
+// The bytes of r are stored from at on; those past the end of t are lost.
+pub fn store(t: &mut [u8], at: usize, r: &[u8])
+    ensures { λ r₀. ⌜ now (t .exit) ≡ storeAt (now (t .entry)) at (now (r .entry)) ⌝ }
+{
+    let room = if at < t.len() { t.len() - at } else { 0 };
+    let n = if r.len() < room { r.len() } else { room };
+    let mut i: usize = 0;
+    while i < n {
+        t[at + i] = r[i];
+        i += 1;
+    }
+}
+
+// A flag as a byte.
+pub fn flag(b: bool) -> u8
+    ensures { λ r. ⌜ r ≡ flagOf b ⌝ }
+{
+    if b { 1 } else { 0 }
+}
+
+// A number with its sign as one without.
+pub fn zig(z: i16) -> u16
+    ensures { λ r. ⌜ r ≡ zigOf z ⌝ }
+{
+    if z < 0 {
+        let m = (-1 - z) as u16;
+        2 * m + 1
+    } else {
+        2 * (z as u16)
+    }
+}
+
+// The number with its sign that one without stands for.
+pub fn zag(n: u16) -> i16
+    ensures { λ r. ⌜ r ≡ zagOf n ⌝ }
+{
+    let m = (n / 2) as i16;
+    if n % 2 == 0 { m } else { -1 - m }
+}
+
+// The number that two bytes say, high first.
+pub fn pair(hi: u8, lo: u8) -> u16
+    ensures { λ r. ⌜ r ≡ pairOf hi lo ⌝ }
+{
+    256 * (hi as u16) + (lo as u16)
+}
+
+// The number that two numbers of two bytes say, high first.
+pub fn quad(hi: u16, lo: u16) -> u32
+    ensures { λ r. ⌜ r ≡ quadOf hi lo ⌝ }
+{
+    65536 * (hi as u32) + (lo as u32)
+}
