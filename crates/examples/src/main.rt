@@ -1,0 +1,127 @@
+// Runs 01's examples of the field and the check, and the code word of 000's appendix.
+ghost use Prim.Native.Nat.{_<_};
+use libc::STDOUT_FILENO;
+
+// 000, appendix: the code word of the encoding example, 162 symbols in the print's order, nine to a row.
+const WORD: [[u8; 9]; 18] = [
+    [10, 50, 19, 33, 10, 38, 16, 41, 44],
+    [47, 28, 5, 14, 58, 9, 52, 34, 63],
+    [5, 28, 6, 61, 0, 49, 52, 55, 5],
+    [25, 16, 51, 27, 58, 11, 16, 9, 8],
+    [55, 37, 35, 9, 54, 39, 22, 32, 25],
+    [4, 15, 7, 11, 15, 26, 3, 57, 60],
+    [31, 31, 21, 57, 23, 7, 49, 24, 15],
+    [25, 6, 8, 60, 61, 36, 3, 15, 22],
+    [52, 0, 2, 10, 41, 46, 41, 28, 35],
+    [36, 46, 57, 0, 55, 1, 22, 45, 50],
+    [9, 27, 9, 26, 3, 11, 41, 21, 31],
+    [13, 43, 30, 13, 61, 31, 20, 8, 6],
+    [36, 3, 45, 12, 57, 59, 23, 10, 43],
+    [45, 63, 1, 60, 15, 47, 10, 6, 40],
+    [56, 24, 2, 19, 19, 46, 43, 19, 61],
+    [26, 1, 7, 61, 11, 55, 48, 43, 49],
+    [44, 50, 27, 31, 27, 12, 60, 51, 58],
+    [15, 6, 29, 61, 39, 38, 5, 53, 34],
+];
+
+// Symbol k of the appendix's code word.
+fn symbol(k: usize) -> u8
+    requires { ⌜ k < 162 ⌝ }
+{
+    let row = WORD[k / 9];
+    row[k % 9]
+}
+
+// A frame with the appendix's code word: sync, PRN 60, flags of zero, 162 symbols.
+fn frame() -> [u8; 125] {
+    let mut out = [0u8; 125];
+    bits::put(&mut out, 0, 16, 0xEB90);
+    bits::put(&mut out, 16, 6, 60);
+    let mut k: usize = 0;
+    while k < 162 {
+        bits::put(&mut out, 28 + 6 * k, 6, symbol(k) as u64);
+        k += 1;
+    }
+    out
+}
+
+// The frame with the low bit of symbol k turned over is found wrong.
+fn caught(k: u8) -> bool {
+    let mut out = frame();
+    let at = 28 + 6 * (k as usize);
+    let was = bits::get(&out, at, 6);
+    bits::put(&mut out, at, 6, was ^ 1);
+    !parity::parity_ok(&out)
+}
+
+// How many of the 162 symbols, each damaged alone, are caught.
+fn caught_count() -> u64 {
+    let mut n: u64 = 0;
+    let mut k: u8 = 0;
+    while k < 162 {
+        if caught(k) {
+            n += 1;
+        }
+        k += 1;
+    }
+    n
+}
+
+// Writes bytes to standard output.
+fn say(text: &[u8]) {
+    io::write_all(STDOUT_FILENO, text);
+}
+
+// Writes a number to standard output.
+fn say_number(n: u64) {
+    io::print_decimal(STDOUT_FILENO, n);
+}
+
+// Writes a product of the field.
+fn say_product(a: u8, b: u8) {
+    say(b"field: ");
+    say_number(a as u64);
+    say(b" x ");
+    say_number(b as u64);
+    say(b" = ");
+    say_number(field64::mul(a, b) as u64);
+    say(b"\n");
+}
+
+// Writes the check of 462 zero bits, the last of them made b.
+fn say_check(text: &[u8], b: u64) {
+    let mut message = [0u8; 61];
+    bits::put(&mut message, 461, 1, b);
+    say(text);
+    io::print_hex(STDOUT_FILENO, check24::check(&message, 0, 462) as u64, 6);
+    say(b"\n");
+}
+
+// Writes whether the appendix's code word passes the parity check.
+fn say_parity() {
+    let word = frame();
+    say(b"appendix word: parity ");
+    if parity::parity_ok(&word) {
+        say(b"holds\n");
+    } else {
+        say(b"does not hold\n");
+    }
+}
+
+// Writes how many damaged symbols are caught.
+fn say_caught() {
+    say(b"damaged symbols caught: ");
+    say_number(caught_count());
+    say(b" of 162\n");
+}
+
+// The products, the checks, and the appendix's word.
+fn main() {
+    say_product(2, 32);
+    say_product(2, 63);
+    say_product(32, 32);
+    say_check(b"check of 462 zero bits: ", 0);
+    say_check(b"check with only the last bit set: ", 1);
+    say_parity();
+    say_caught();
+}

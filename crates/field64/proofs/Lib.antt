@@ -1,0 +1,3 @@
+pub mod ProductLaws
+pub mod FieldLaws
+pub mod Examples
