@@ -1,0 +1,77 @@
+-- What the bytes of a slot say, field by field, as they are read: 01's records from a place on.
+use mathlib.Core.Path.{_≡_}
+use mathlib.Core.Logic.{_≢_}
+use Prim.Native.Nat.{ℕ, _+_}
+use mathlib.Core.Bool.{true}
+use mathlib.Core.List.{List}
+use lib.Dec.{eqb}
+use lib.ListN.{getD}
+use native.Mathlib.Nat.{add-zero}
+use native.Mathlib.Omega.{arith}
+use borrow.Author.Tests.{eq-eqb, ne-eqb}
+use Rattle.bits.specs.Bytes.{rowAt}
+use Rattle.bits.specs.Table.{table}
+use Rattle.store.specs.Digits.{zagOf, pairOf, quadOf}
+use Rattle.store.specs.Held.{heldAt}
+use Rattle.form.specs.Form.{noClock, clockPlace, clockAt, heldUra, noOrbit, orbitPlace, orbitAt}
+use Rattle.form.specs.declared.HeldClock.{HeldClock}
+use Rattle.form.specs.declared.HeldOrbit.{HeldOrbit}
+
+-- the number that two bytes from `at` on say, and four
+abbrev pub twoAt : List ℕ → ℕ → ℕ
+twoAt s at = pairOf (getD s at 0) (getD s (at + 1) 0)
+
+abbrev pub fourAt : List ℕ → ℕ → ℕ
+fourAt s at = quadOf (pairOf (getD s at 0) (getD s (at + 1) 0)) (pairOf (getD s (at + 2) 0) (getD s (at + 3) 0))
+
+-- offsets added one after the other
+plus : (at m n : ℕ) → at + m + n ≡ at + (m + n)
+plus at m n = omega arith
+
+module _ (s : List ℕ) (slot at : ℕ) where
+  pub clock-none : at ≡ clockPlace slot → getD s at 0 ≢ 1 → noClock ≡ clockAt s slot
+  unfolding heldAt rowAt table
+  clock-none e n = rw (← e, add-zero at, ne-eqb _ _ n)
+
+  pub clock-some : at ≡ clockPlace slot → getD s at 0 ≡ 1 →
+      _≡_ {A = HeldClock}
+      (record { has = true; placed = eqb (getD s (at + 1) 0) 1; epoch = fourAt s (at + 2); ssr = getD s (at + 6) 0; corr = getD s (at + 7) 0; c0 = zagOf (twoAt s (at + 8)) })
+      (clockAt s slot)
+  unfolding heldAt rowAt table
+  clock-some e n = rw (← e, add-zero at, eq-eqb _ _ n, plus at 2 1, plus at 2 2, plus at 2 3, plus at 8 1)
+
+  pub orbit-none : at ≡ orbitPlace slot → getD s at 0 ≢ 1 → noOrbit ≡ orbitAt s slot
+  unfolding heldAt rowAt table
+  orbit-none e n = rw (← e, add-zero at, ne-eqb _ _ n)
+
+  pub orbit-some : at ≡ orbitPlace slot → getD s at 0 ≡ 1 →
+      _≡_ {A = HeldOrbit}
+      (record {
+        has = true;
+        epoch = fourAt s (at + 1);
+        ssr = getD s (at + 5) 0;
+        iodn = twoAt s (at + 6);
+        corr = getD s (at + 8) 0;
+        radial = zagOf (twoAt s (at + 9));
+        along = zagOf (twoAt s (at + 11));
+        cross = zagOf (twoAt s (at + 13));
+        ura = heldUra (getD s (at + 15) 0) (fourAt s (at + 16));
+      })
+      (orbitAt s slot)
+  unfolding heldAt rowAt table
+  orbit-some e n =
+      rw (
+        ← e,
+        add-zero at,
+        eq-eqb _ _ n,
+        plus at 1 1,
+        plus at 1 2,
+        plus at 1 3,
+        plus at 6 1,
+        plus at 9 1,
+        plus at 11 1,
+        plus at 13 1,
+        plus at 16 1,
+        plus at 16 2,
+        plus at 16 3,
+      )
