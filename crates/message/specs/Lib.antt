@@ -1,0 +1,4 @@
+pub mod Layout
+pub mod Parts
+pub mod Judge
+pub mod Read
