@@ -1,8 +1,8 @@
 -- docs/FORM.md: the orbits and clocks that a ledger keeps, as lent bytes. First byte 1 means held; anything else is the absent record.
 -- A ledger: PRN, mask (258 bytes), 1 spare, 255 clocks of 12 bytes from byte 260 on, 255 orbits of 24 bytes from byte 3320 on.
-use Prim.Native.Nat.{ℕ, _+_, _*_, _/_, _%_}
-use mathlib.Core.Bool.{Bool, true, false}
-use mathlib.Core.List.{List, [], _∷_, _++_}
+use Prim.Native.Nat.{ℕ, _/_, _%_}
+use mathlib.Core.Bool.{true, false}
+use mathlib.Core.List.{List, [], _∷_}
 use lib.Dec.{eqb}
 use lib.IntN.{pos}
 use lib.ListN.{getD}

@@ -1,6 +1,6 @@
 -- Laws of the layouts: 01, Message fields, in order.
 use mathlib.Core.Path.{_≡_, refl}
-use mathlib.Core.Logic.{_≢_, dite}
+use mathlib.Core.Logic.{_≢_, _⊎_, inl, inr, ⊎-elim, dite}
 use mathlib.Core.Bool.{Bool, true, false}
 use Prim.Native.Nat.{ℕ, _+_, _*_, _≤_, _<_}
 use native.Mathlib.Decide.{ℕ-discrete}
@@ -77,3 +77,26 @@ layout-short kind numc numo n6 n7 =
 pub mask-short : (numc numo : ℕ) → layoutOf 1 numc numo .head + total (partWidths 4 0) + 255 ≤ 462
 unfolding layoutOf
 mask-short numc numo = omega arith
+
+-- a part that is there or not
+part-bits : (n x m : ℕ) → pick (eqb n 0) 0 x ≤ m → (n ≡ 0) ⊎ (x ≤ m)
+part-bits n x m h = dite (ℕ-discrete n 0) (λ e. inl e) (λ ne. inr (rw (ne-eqb n 0 ne) at h))
+
+-- and what does not end after it has room for its records: 23 clocks, six orbits
+abbrev Held : Layout → Type 0
+Held l = endOf l ≤ 462 → (l .clocks ≤ 23) × (l .orbits ≤ 6)
+
+orbits-held : (numo : ℕ) → pick (eqb numo 0) 0 (23 + 69 * numo) ≤ 462 → numo ≤ 6
+orbits-held numo h = ⊎-elim (λ e. omega arith) (λ l. omega arith) (part-bits numo (23 + 69 * numo) 462 h)
+
+pub layout-held : (kind numc numo : ℕ) → endOf (layoutOf kind numc numo) ≤ 462 → (layoutOf kind numc numo .clocks ≤ 23) × (layoutOf kind numc numo .orbits ≤ 6)
+unfolding layoutOf
+layout-held kind numc numo =
+    pick-all Held (eqb kind 1) _ _ (λ h. (omega arith, omega arith))
+    (pick-all Held (eqb kind 2) _ _ (λ h. (omega arith, omega arith))
+    (pick-all Held (eqb kind 4) _ _ (λ h. (omega arith, omega arith))
+    (pick-all Held (eqb kind 6) _ _
+    (λ h. (⊎-elim (λ e. omega arith) (λ l. omega arith) (part-bits numc (36 + 18 * numc) 448 (omega arith)), orbits-held numo (omega arith)))
+    (pick-all Held (eqb kind 7) _ _
+    (λ h. (⊎-elim (λ e. omega arith) (λ l. omega arith) (part-bits numc (23 + 27 * numc) 448 (omega arith)), orbits-held numo (omega arith)))
+    (λ h. (omega arith, omega arith))))))

@@ -1,8 +1,8 @@
 -- Each byte is its digit; C0 is what it was before the call.
-use mir.Syntax.{w16}
-use mir.Val.{toZ, ofZ}
 use borrow.Author.Needs.{needs}
 use mathlib.Core.Path.{_≡_}
+use mir.Syntax.{w16}
+use mir.Val.{toZ, ofZ}
 use Rattle.form.proofs.clock_bytes.Statement.{statement}
 use Rattle.form.proofs.clock_bytes.Tie as tie
 

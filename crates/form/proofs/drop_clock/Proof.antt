@@ -1,9 +1,9 @@
 -- By whether the clock that is read came by place.
+use borrow.Author.Needs.{needs}
 use mathlib.Core.Bool.{true, false}
+use mathlib.Core.Path.{_≡_, sym}
 use Rattle.store.proofs.DropLaws.{drop-yes, drop-no}
 use Rattle.form.specs.Form.{clocksKept, clockOf, clockBytes, clockAt}
-use borrow.Author.Needs.{needs}
-use mathlib.Core.Path.{_≡_, sym}
 use Rattle.form.proofs.drop_clock.Statement.{statement}
 use Rattle.form.proofs.drop_clock.Tie as tie
 
@@ -21,9 +21,10 @@ same-length c = search needs
 
 returns : tie.Need-returns
 returns c =
-    let a = c .before .before .before .before .before .before .before .before .before .args in
-    let e : clockAt (a .t .now) (a .slot) .placed ≡ true = rw (c .before .before .before .before .before .before .get-clock .ensures) at (c .before .before .before .before .before .if1 .taken) in
-    cc (drop-yes clocksKept clockOf clockBytes 12 (a .t .now) 260 (a .slot) e)
+    let c6 = c .before .before .before .before .before .before in
+    let a = c6 .before .before .before .args in
+    let e : clockAt (a .t .now) (a .slot) .placed ≡ true = rw (c6 .get-clock .ensures) at (c .before .before .before .before .before .if1 .taken) in
+    rw (c .before .before .put-clock .ensures, c .before .before .before .no-clock .ensures) (sym (drop-yes clocksKept clockOf clockBytes 12 (a .t .now) 260 (a .slot) e))
 
 same-length-2 : tie.Need-same-length-2
 same-length-2 c = search needs

@@ -1,11 +1,11 @@
 -- The clocks of slots 1 to i are dropped.
-use Rattle.store.proofs.DropLaws.{drop-start, drop-step}
-use Rattle.form.specs.Form.{clocksKept, clockOf, clockBytes, droppedClocks}
 use borrow.Author.Needs.{needs}
 use native.Mathlib.Omega.{arith}
 use Prim.Native.Nat.{_-_, _≤_}
 use mathlib.Core.Path.{_≡_, sym, _∙_, refl}
 use lib.ListN.{length}
+use Rattle.store.proofs.DropLaws.{drop-start, drop-step}
+use Rattle.form.specs.Form.{clocksKept, clockOf, clockBytes, droppedClocks}
 use Rattle.form.proofs.drop_placed.Statement.{statement}
 use Rattle.form.proofs.drop_placed.Tie as tie
 

@@ -1,9 +1,9 @@
 -- The place's first byte decides; each field is what its bytes say.
+use borrow.Author.Needs.{needs}
+use mathlib.Core.Path.{_≡_, _∙_}
 use mir.Syntax.{w16}
 use mir.Val.{toZ, ofZ}
 use Rattle.form.proofs.ReadLaws.{orbit-none, orbit-some}
-use borrow.Author.Needs.{needs}
-use mathlib.Core.Path.{_≡_, _∙_}
 use Rattle.form.proofs.get_orbit.Statement.{statement}
 use Rattle.form.proofs.get_orbit.Tie as tie
 

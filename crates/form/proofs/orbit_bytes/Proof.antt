@@ -1,9 +1,9 @@
 -- Each byte is its digit; radial, along and cross are what they were before the calls.
-use mir.Syntax.{w16}
-use Rattle.form.specs.declared.HeldOrbit.{HeldOrbit}
-use mir.Val.{toZ, ofZ}
 use borrow.Author.Needs.{needs}
 use mathlib.Core.Path.{_≡_}
+use mir.Syntax.{w16}
+use mir.Val.{toZ, ofZ}
+use Rattle.form.specs.declared.HeldOrbit.{HeldOrbit}
 use Rattle.form.proofs.orbit_bytes.Statement.{statement}
 use Rattle.form.proofs.orbit_bytes.Tie as tie
 

@@ -1,10 +1,10 @@
 -- Slot 0 and slots above 255 are none; any other slot's bytes are stored at its place.
-use Rattle.store.proofs.HeldLaws.{put-none, put-far, put-slot}
-use Rattle.form.specs.Form.{clockOf, clockBytes}
-use Rattle.form.proofs.FormLaws.{clock-long}
 use borrow.Author.Needs.{needs}
 use native.Mathlib.Omega.{arith}
 use mathlib.Core.Path.{sym}
+use Rattle.store.proofs.HeldLaws.{put-none, put-far, put-slot}
+use Rattle.form.specs.Form.{clockOf, clockBytes}
+use Rattle.form.proofs.FormLaws.{clock-long}
 use Rattle.form.proofs.put_clock.Statement.{statement}
 use Rattle.form.proofs.put_clock.Tie as tie
 
@@ -38,8 +38,9 @@ same-length c = search needs
 
 returns-3 : tie.Need-returns-3
 returns-3 c =
-    let a = c .before .before .before .before .before .before .before .before .before .before .args in
-    cc (put-slot clockOf clockBytes 12 clock-long (a .t .now) 260 (a .slot) (a .h) (omega arith) (omega arith))
+    let c6 = c .before .before .before .before .before .before in
+    let a = c6 .before .before .before .before .args in
+    rw (c .before .before .store .ensures, c6 .clock-place .ensures, c .before .before .before .before .before .clock-bytes .ensures) (sym (put-slot clockOf clockBytes 12 clock-long (a .t .now) 260 (a .slot) (a .h) (omega arith) (omega arith)))
 
 pub put-clock-spec : {M : Type 1} → statement M
 put-clock-spec =

@@ -2,10 +2,22 @@ use native.Mathlib.Omega.{arith}
 use borrow.Author.Needs.{needs}
 use mathlib.Core.Path.{_≡_, sym}
 use mathlib.Core.Logic.{⊎-elim}
+use Prim.Native.Nat.{_*_, _≤_}
 use Rattle.bits.specs.Pick.{pick}
 use Rattle.message.proofs.LayoutLaws.{width-near, from-none, from-some}
+use Rattle.message.proofs.layout.orbits_from.Lts as lts
+use Rattle.message.proofs.layout.orbits_from.Reads as reads
 use Rattle.message.proofs.layout.orbits_from.Statement.{statement}
 use Rattle.message.proofs.layout.orbits_from.Tie as tie
+
+-- the width of a clock record, and that of all of them
+each-is : (c : lts.Joined2 reads.Pre reads.Post) → c .if2 .each ≡ pick (c .before .before .args .l .slotted) 27 18
+each-is c = ⊎-elim (λ w. rw (w .0 .taken) (w .1)) (λ w. rw (w .0 .left) (w .1)) (c .if2 .came)
+
+each-near : (c : lts.Joined2 reads.Pre reads.Post) → c .if2 .each * c .before .before .args .l .clocks ≤ 6885
+each-near c =
+    let l = c .before .before .args .l in
+    width-near _ (l .slotted) (l .clocks) (each-is c) (search needs)
 
 cast-result : tie.Need-cast-result
 cast-result c = search needs
@@ -33,30 +45,23 @@ cast-result-5 c = search needs
 
 mul-result : tie.Need-mul-result
 mul-result c =
-    let l = c .before .before .before .before .before .before .args .l in
-    let each : c .before .before .before .before .if2 .each ≡ pick (l .slotted) 27 18 = ⊎-elim (λ w. rw (w .0 .taken) (w .1)) (λ w. rw (w .0 .left) (w .1)) (c .before .before .before .before .if2 .came) in
-    let near = width-near _ (l .slotted) (l .clocks) each (search needs) in
+    let near = each-near (c .before .before .before .before) in
     omega arith
 
 add-result-3 : tie.Need-add-result-3
 add-result-3 c =
-    let l = c .before .before .before .before .before .before .args .l in
-    let each : c .before .before .before .before .if2 .each ≡ pick (l .slotted) 27 18 = ⊎-elim (λ w. rw (w .0 .taken) (w .1)) (λ w. rw (w .0 .left) (w .1)) (c .before .before .before .before .if2 .came) in
-    let near = width-near _ (l .slotted) (l .clocks) each (search needs) in
+    let near = each-near (c .before .before .before .before) in
     omega arith
 
 add-result-4 : tie.Need-add-result-4
 add-result-4 c =
-    let l = c .before .before .before .before .before .before .args .l in
-    let each : c .before .before .before .before .if2 .each ≡ pick (l .slotted) 27 18 = ⊎-elim (λ w. rw (w .0 .taken) (w .1)) (λ w. rw (w .0 .left) (w .1)) (c .before .before .before .before .if2 .came) in
-    let near = width-near _ (l .slotted) (l .clocks) each (search needs) in
+    let near = each-near (c .before .before .before .before) in
     omega arith
 
 returns-2 : tie.Need-returns-2
 returns-2 c =
-    let l = c .before .before .before .before .before .before .args .l in
-    let each : c .before .before .before .before .if2 .each ≡ pick (l .slotted) 27 18 = ⊎-elim (λ w. rw (w .0 .taken) (w .1)) (λ w. rw (w .0 .left) (w .1)) (c .before .before .before .before .if2 .came) in
-    rw each (sym (from-some l (c .before .before .before .before .before .if1 .left)))
+    let j = c .before .before .before .before in
+    rw (each-is j) (sym (from-some (j .before .before .args .l) (j .before .if1 .left)))
 
 pub orbits-from-spec : {M : Type 1} → statement M
 orbits-from-spec =

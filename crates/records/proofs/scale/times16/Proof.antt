@@ -1,4 +1,4 @@
-use native.Mathlib.Omega.{arith}
+use borrow.Author.Needs.{needs}
 use mir.Facts.{toZ-ofZ}
 use Rattle.records.proofs.ScaleLaws.{wider, scaled}
 use Rattle.records.proofs.scale.times16.Statement.{statement}
@@ -10,12 +10,12 @@ cast-result c = rw (toZ-ofZ (c .fits .raw)) (wider (c .args .raw) (c .fits .raw)
 mul-result : tie.Need-mul-result
 mul-result c =
     let z = c .args .raw in
-    rw (toZ-ofZ (c .fits .raw), toZ-ofZ (wider z (c .fits .raw))) (scaled 16 z (omega arith) (c .fits .raw))
+    rw (toZ-ofZ (c .fits .raw), toZ-ofZ (wider z (c .fits .raw))) (scaled _ z (search needs) (c .fits .raw))
 
 returns : tie.Need-returns
 returns c =
     let z = c .args .raw in
-    rw (toZ-ofZ (c .fits .raw), toZ-ofZ (wider z (c .fits .raw)), toZ-ofZ (scaled 16 z (omega arith) (c .fits .raw)))
+    rw (toZ-ofZ (c .fits .raw), toZ-ofZ (wider z (c .fits .raw)), toZ-ofZ (scaled 16 z (search needs) (c .fits .raw)))
 
 pub times16-spec : {M : Type 1} → statement M
 times16-spec = tie.close (tie.spec cast-result mul-result returns)

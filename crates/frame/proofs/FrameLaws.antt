@@ -1,0 +1,113 @@
+-- Laws of refusals, and of the contents of a frame that none applies to.
+use mathlib.Core.Path.{_≡_, refl, sym}
+use mathlib.Core.Logic.{dite}
+use mathlib.Core.Bool.{Bool, true, false, not, _||_}
+use mathlib.Core.List.{List, [], _∷_}
+use Prim.Native.Nat.{ℕ, _+_, _≤_}
+use native.Mathlib.Decide.{ℕ-discrete}
+use native.Mathlib.Omega.{arith}
+use lib.Dec.{eqb}
+use lib.ListN.{length}
+use borrow.Author.Tests.{eq-eqb, ne-eqb}
+use Rattle.bits.specs.Pick.{pick}
+use Rattle.bits.specs.Some.{first}
+use Rattle.bits.proofs.TableLaws.{length-table}
+use Rattle.records.specs.Clock.{blankClock}
+use Rattle.records.specs.Orbit.{blankOrbit}
+use Rattle.message.specs.Layout.{orbitsFrom}
+use Rattle.message.specs.Parts.{maskBitAt, clockNth, orbitNth, maskPartAt, clockPartAt, orbitPartAt, layoutAt, maskBitsAt, clocksAt, orbitsAt, noMask, noClocks, noOrbits, maskIn, clocksIn, orbitsIn, contentsAt}
+use Rattle.message.specs.Judge.{isKind, tooLong, late, highSlot, twice, reservedBit, refusalOf}
+use Rattle.message.specs.declared.parts.MaskPart.{MaskPart}
+use Rattle.message.specs.declared.parts.ClockPart.{ClockPart}
+use Rattle.message.specs.declared.parts.OrbitPart.{OrbitPart}
+use Rattle.message.specs.declared.parts.Contents.{Contents}
+use Rattle.frame.specs.Frame.{contentsOf, shellRefusal, refusalWith}
+
+-- ---- the first that holds
+-- where 0 is given, the condition of a number above 0 does not hold, nor any later one
+pub skipped : (n : ℕ) (b : Bool) (r : ℕ) → 1 ≤ n → pick b n r ≡ 0 → (b ≡ false) × (r ≡ 0)
+skipped n true r l e = absurd (omega arith)
+skipped n false r l e = (refl, e)
+
+-- one refusal after another: none applies only if neither does
+pub neither : (a b : ℕ) → first ((a, not (eqb a 0)) ∷ (b, not (eqb b 0)) ∷ []) ≡ 0 → (a ≡ 0) × (b ≡ 0)
+neither a b e =
+    dite (ℕ-discrete a 0)
+    (λ p. dite (ℕ-discrete b 0) (λ q. (p, q)) (λ q. absurd (q (rw (eq-eqb a 0 p, ne-eqb b 0 q) at e))))
+    (λ p. absurd (p (rw (ne-eqb a 0 p) at e)))
+
+-- and the second is given where the first does not apply
+pub second : (a b : ℕ) → a ≡ 0 → first ((a, not (eqb a 0)) ∷ (b, not (eqb b 0)) ∷ []) ≡ b
+second a b e = dite (ℕ-discrete b 0) (λ q. rw (eq-eqb a 0 e, eq-eqb b 0 q) (sym q)) (λ q. rw (eq-eqb a 0 e, ne-eqb b 0 q))
+
+-- neither of two tests holds
+pub no-test : (a b : Bool) → a || b ≡ false → (a ≡ false) × (b ≡ false)
+no-test true b e = (e, absurd (let z : _≡_ {A = ℕ} 0 1 = cc in omega arith))
+no-test false b e = (refl, e)
+
+-- ---- a frame that is not refused: neither its shell is, nor its contents
+pub parts-zero : (foreign : Bool) (f : List ℕ) → refusalWith foreign f ≡ 0 → (shellRefusal foreign f ≡ 0) × (refusalOf (contentsOf f) ≡ 0)
+unfolding refusalWith
+parts-zero foreign f e = neither (shellRefusal foreign f) (refusalOf (contentsOf f)) e
+
+-- ---- contents that are not refused: none of 8 to 13 applies
+pub record Sound (c : Contents) : Type 0 where
+  pub kind : isKind (c .kind) ≡ true
+  pub short : tooLong (c .kind) (c .clock .count) (c .orbit .count) ≡ false
+  pub early : late (c .mask .epoch) (c .clock .epoch) (c .orbit .epoch) ≡ false
+  pub low : highSlot (c .kind) (c .clock) (c .orbit) ≡ false
+  pub once : twice (c .clock) (c .orbit) ≡ false
+  pub known : reservedBit (c .mask .bits) ≡ false
+
+not-not : (b : Bool) → not b ≡ false → b ≡ true
+not-not true e = refl
+not-not false e = sym e
+
+pub sound : (c : Contents) → refusalOf c ≡ 0 → Sound c
+unfolding refusalOf
+sound c e =
+    let b9 = tooLong (c .kind) (c .clock .count) (c .orbit .count) in
+    let b10 = late (c .mask .epoch) (c .clock .epoch) (c .orbit .epoch) in
+    let b11 = highSlot (c .kind) (c .clock) (c .orbit) in
+    let b12 = twice (c .clock) (c .orbit) in
+    let b13 = reservedBit (c .mask .bits) in
+    let n13 = pick {A = ℕ} b13 13 0 in
+    let n12 = pick {A = ℕ} b12 12 n13 in
+    let n11 = pick {A = ℕ} b11 11 n12 in
+    let n10 = pick {A = ℕ} b10 10 n11 in
+    let r8 = skipped 8 (not (isKind (c .kind))) (pick {A = ℕ} b9 9 n10) (omega arith) e in
+    let r9 = skipped 9 b9 n10 (omega arith) (r8 .1) in
+    let r10 = skipped 10 b10 n11 (omega arith) (r9 .1) in
+    let r11 = skipped 11 b11 n12 (omega arith) (r10 .1) in
+    let r12 = skipped 12 b12 n13 (omega arith) (r11 .1) in
+    let r13 = skipped 13 b13 0 (omega arith) (r12 .1) in
+    record { kind = not-not (isKind (c .kind)) (r8 .0); short = r9 .0; early = r10 .0; low = r11 .0; once = r12 .0; known = r13 .0 }
+
+-- ---- the parts of a frame's contents are as long as their arrays
+pub mask-long : (f : List ℕ) → length (contentsOf f .mask .bits) ≡ 255
+unfolding contentsAt maskIn noMask maskBitsAt
+mask-long f = let l = layoutAt f 28 in go (l .mask) (maskPartAt f (28 + l .head)) (length-table (maskBitAt f (28 + l .head + 27)) 255)
+  where
+    go : (b : Bool) (m : MaskPart) → length (m .bits) ≡ 255 → length (pick b m noMask .bits) ≡ 255
+    go true m e = e
+    go false m e = length-table (λ (i : ℕ). false) 255
+
+pub clocks-long : (f : List ℕ) → length (contentsOf f .clock .clocks) ≡ 23
+unfolding contentsAt clocksIn noClocks clocksAt
+clocks-long f =
+    let l = layoutAt f 28 in
+    go (eqb (l .clocks) 0) (clockPartAt f (28 + l .head) l) (length-table (clockNth (l .slotted) f (28 + l .head + (23 + l .iodp + l .start)) (l .clocks)) 23)
+  where
+    go : (b : Bool) (p : ClockPart) → length (p .clocks) ≡ 23 → length (pick b noClocks p .clocks) ≡ 23
+    go true p e = length-table (λ (i : ℕ). blankClock) 23
+    go false p e = e
+
+pub orbits-long : (f : List ℕ) → length (contentsOf f .orbit .orbits) ≡ 6
+unfolding contentsAt orbitsIn noOrbits orbitsAt
+orbits-long f =
+    let l = layoutAt f 28 in
+    go (eqb (l .orbits) 0) (orbitPartAt f (28 + orbitsFrom l) l) (length-table (orbitNth f (28 + orbitsFrom l + 23) (l .orbits)) 6)
+  where
+    go : (b : Bool) (p : OrbitPart) → length (p .orbits) ≡ 6 → length (pick b noOrbits p .orbits) ≡ 6
+    go true p e = length-table (λ (i : ℕ). blankOrbit) 6
+    go false p e = e

@@ -1,0 +1,56 @@
+-- 01, What arrives and what is handled: 16 symbols of sync, 6 of PRN, 6 of flags, 972 coded; the message is the first 486 of those.
+use Prim.Native.Nat.{ℕ}
+use mathlib.Core.Bool.{Bool, false, not}
+use mathlib.Core.List.{List, [], _∷_}
+use lib.Dec.{eqb}
+use lib.ListN.{length}
+use Rattle.bits.specs.Bits.{bitAt, fieldAt}
+use Rattle.bits.specs.Some.{first}
+use Rattle.check24.specs.Check.{checkOk}
+use Rattle.parity.specs.Parity.{parityOk}
+use Rattle.message.specs.Parts.{contentsAt}
+use Rattle.message.specs.Judge.{refusalOf}
+use Rattle.message.specs.Read.{answer}
+use Rattle.message.specs.declared.parts.Contents.{Contents}
+use Rattle.message.specs.declared.read.Reading.{Reading}
+
+-- 01: the satellite's PRN, after the sync
+abbrev pub prnOf : List ℕ → ℕ
+prnOf f = fieldAt f 16 6
+
+-- 01: the message begins at bit 28
+abbrev pub contentsOf : List ℕ → Contents
+contentsOf f = contentsAt f 28
+
+-- 01, Refusal numbers 1, 3, 4 where the frame is foreign, 5, 6, 7: the lowest that applies
+unfoldable pub shellRefusal : Bool → List ℕ → ℕ
+shellRefusal foreign f =
+    first
+    ((1, not (eqb (length f) 125))
+    ∷ (3, not (eqb (fieldAt f 0 16) 0xEB90))
+    ∷ (4, foreign)
+    ∷ (5, eqb (bitAt f 22) 1)
+    ∷ (6, not (parityOk f))
+    ∷ (7, not (checkOk f 28 462))
+    ∷ [])
+
+-- 01, Refusal numbers: those of the frame around its message, then 8 to 13
+unfoldable pub refusalWith : Bool → List ℕ → ℕ
+refusalWith foreign f =
+    first ((shellRefusal foreign f, not (eqb (shellRefusal foreign f) 0)) ∷ (refusalOf (contentsOf f), not (eqb (refusalOf (contentsOf f)) 0)) ∷ [])
+
+-- the answer: the contents, or only the refusal
+abbrev pub readWith : Bool → List ℕ → Reading
+readWith foreign f = answer (refusalWith foreign f) (contentsOf f)
+
+-- 01: reading without a ledger makes no check 4
+abbrev pub readFrame : List ℕ → Reading
+readFrame f = readWith false f
+
+-- 01, 4: the frame's PRN is not the ledger's
+abbrev pub foreignTo : ℕ → List ℕ → Bool
+foreignTo prn f = not (eqb (prnOf f) prn)
+
+-- reading for a ledger's PRN
+abbrev pub readFor : ℕ → List ℕ → Reading
+readFor prn f = readWith (foreignTo prn f) f

@@ -1,0 +1,67 @@
+// Frames of 125 bytes, read without a ledger or for one PRN: 01, "What arrives and what is handled".
+ghost use mathlib.Core.Path.{_≡_};
+ghost use Rattle.frame.specs.Frame.{prnOf, shellRefusal, readFrame, readFor, readWith};
+use message::judge::refusal_of;
+use message::parts::no_contents;
+use message::read::Reading;
+use message::read::answer_of;
+use message::read::contents_at;
+
+// The PRN that a frame carries; the bits past the end of a short one are 0.
+pub fn prn_of(f: &[u8]) -> u8
+    ensures { λ r. ⌜ r ≡ prnOf (now (f .entry)) ⌝ }
+{
+    bits::get8(f, 16, 6)
+}
+
+// The lowest refusal of the frame around its message: 1, 3, 4 where it is foreign, 5, 6, 7; 0 if none applies.
+fn shell_refusal(f: &[u8], foreign: bool) -> u8
+    ensures { λ r. ⌜ r ≡ shellRefusal foreign (now (f .entry)) ⌝ }
+{
+    if f.len() != 125 {
+        return 1;
+    }
+    if bits::get16(f, 0, 16) != 0xEB90 {
+        return 3;
+    }
+    if foreign {
+        return 4;
+    }
+    if bits::bit(f, 22) == 1 {
+        return 5;
+    }
+    if !parity::parity_ok(f) {
+        return 6;
+    }
+    if !check24::check_ok(f, 28, 462) {
+        return 7;
+    }
+    0
+}
+
+// The frame's message, or the lowest refusal; foreign says whether 4 applies.
+fn read_with(f: &[u8], foreign: bool) -> Reading
+    ensures { λ r. ⌜ r ≡ readWith foreign (now (f .entry)) ⌝ }
+{
+    let n = shell_refusal(f, foreign);
+    if n != 0 {
+        return answer_of(n, no_contents());
+    }
+    let c = contents_at(f, 28);
+    answer_of(refusal_of(c), c)
+}
+
+// A frame read without a ledger: refusals 1, 3, 5 to 13.
+pub fn read_frame(f: &[u8]) -> Reading
+    ensures { λ r. ⌜ r ≡ readFrame (now (f .entry)) ⌝ }
+{
+    read_with(f, false)
+}
+
+// A frame read for one PRN: refusals 1, 3, 4, 5 to 13.
+pub fn read_for(f: &[u8], prn: u8) -> Reading
+    ensures { λ r. ⌜ r ≡ readFor prn (now (f .entry)) ⌝ }
+{
+    let foreign = prn_of(f) != prn;
+    read_with(f, foreign)
+}

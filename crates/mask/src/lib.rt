@@ -1,0 +1,137 @@
+// The mask that a ledger keeps, as lent bytes: docs/FORM.md. Any bytes are such a form; bytes past the end are 0.
+ghost use mathlib.Core.Path.{_≡_};
+ghost use lib.ListN.{getD};
+ghost use Rattle.records.specs.Slots.{setCount, nthSet};
+ghost use Rattle.mask.specs.Mask.{bitsAt, bitAtSlot, maskAt, heldMask, sameBits, sameMask, flagsOf, putMask};
+use message::parts::MaskPart;
+use records::slots::Place;
+use records::slots::Slot;
+
+// Byte at; 0 past the end.
+fn byte(t: &[u8], at: usize) -> u8
+    ensures { λ r. ⌜ r ≡ getD (now (t .entry)) at 0 ⌝ }
+{
+    if at < t.len() { t[at] } else { 0 }
+}
+
+// Whether a mask is held.
+pub fn has_mask(t: &[u8]) -> bool
+    ensures { λ r. ⌜ r ≡ maskAt (now (t .entry)) .has ⌝ }
+{
+    byte(t, 1) == 1
+}
+
+// The IOD SSR of the mask.
+pub fn mask_ssr(t: &[u8]) -> u8
+    ensures { λ r. ⌜ r ≡ maskAt (now (t .entry)) .ssr ⌝ }
+{
+    byte(t, 2)
+}
+
+// The IODP of the mask.
+pub fn mask_iodp(t: &[u8]) -> u8
+    ensures { λ r. ⌜ r ≡ maskAt (now (t .entry)) .iodp ⌝ }
+{
+    byte(t, 3)
+}
+
+// Whether the mask has the bit of a slot; slot 0 has none.
+pub fn has_bit(t: &[u8], slot: Slot) -> bool
+    ensures { λ r. ⌜ r ≡ bitAtSlot (maskAt (now (t .entry)) .bits) (slot .0) ⌝ }
+{
+    let s = slot.0;
+    if s == 0 {
+        return false;
+    }
+    byte(t, 3 + s as usize) == 1
+}
+
+// How many bits of the mask are set.
+pub fn set_count(t: &[u8]) -> u16
+    ensures { λ r. ⌜ r ≡ setCount (maskAt (now (t .entry)) .bits) ⌝ }
+{
+    let mut n: u16 = 0;
+    let mut i: usize = 255;
+    while 0 < i {
+        i -= 1;
+        if byte(t, 4 + i) == 1 {
+            n += 1;
+        }
+    }
+    n
+}
+
+// The slot of a place: that of the n-th set bit, counting from 1. Slot 0 where no satellite has the place.
+pub fn nth_set(t: &[u8], place: Place) -> Slot
+    ensures { λ r. ⌜ r .0 ≡ nthSet (maskAt (now (t .entry)) .bits) (place .0) ⌝ }
+{
+    let mut left = place.0;
+    let mut i: usize = 0;
+    while i < 255 {
+        if byte(t, 4 + i) == 1 {
+            if left == 1 {
+                return Slot((i + 1) as u8);
+            }
+            if left != 0 {
+                left -= 1;
+            }
+        }
+        i += 1;
+    }
+    Slot(0)
+}
+
+// Whether the bits held are these.
+fn same_bits(t: &[u8], bits: [bool; 255]) -> bool
+    ensures { λ r. ⌜ r ≡ sameBits (bitsAt (now (t .entry))) bits ⌝ }
+{
+    let mut k: usize = 0;
+    while k < 255 {
+        if (byte(t, 4 + k) == 1) != bits[k] {
+            return false;
+        }
+        k += 1;
+    }
+    true
+}
+
+// Whether the mask held is this one: IOD SSR, IODP and every bit.
+pub fn same_mask(t: &[u8], m: MaskPart) -> bool
+    ensures { λ r. ⌜ r ≡ sameMask (maskAt (now (t .entry))) (heldMask m) ⌝ }
+{
+    if !has_mask(t) {
+        return false;
+    }
+    if mask_ssr(t) != m.ssr {
+        return false;
+    }
+    if mask_iodp(t) != m.iodp {
+        return false;
+    }
+    let bits = m.bits;
+    same_bits(t, bits)
+}
+
+// The bits as bytes.
+fn flags_of(bits: [bool; 255]) -> [u8; 255]
+    ensures { λ r. ⌜ r ≡ flagsOf bits ⌝ }
+{
+    let mut out = [0u8; 255];
+    let mut i: usize = 0;
+    while i < 255 {
+        out[i] = store::flag(bits[i]);
+        i += 1;
+    }
+    out
+}
+
+// A mask is kept.
+pub fn put_mask(t: &mut [u8], m: MaskPart)
+    ensures { λ r. ⌜ now (t .exit) ≡ putMask (now (t .entry)) m ⌝ }
+{
+    let bits = m.bits;
+    let flags = flags_of(bits);
+    let head = [1u8, m.ssr, m.iodp];
+    store::store(t, 4, &flags);
+    store::store(t, 1, &head);
+}
