@@ -1,0 +1,1354 @@
+/* Makes many messages, frames, logs and contents from a fixed seed, good and
+ * damaged, hands them to the library and to the independent implementation,
+ * and compares verdicts, contents, written bytes, rows, and that what was lent
+ * stays as it was on a refusal.
+ *
+ *   compare [SEED [PERCENT]]    PERCENT of the standard run's size, 100 if not given
+ *
+ * Ends with a table of how often each refusal number was compared, and with
+ * status 1 at any difference, or if a number came too seldom. */
+#include "forms.h"
+#include "library.h"
+#include "ref.h"
+
+#include <signal.h>
+#include <stdio.h>
+#include <stdlib.h>
+#include <string.h>
+#include <sys/mman.h>
+#include <unistd.h>
+
+/* ---- random numbers ---- */
+
+static uint64_t seed, random_state;
+
+static uint32_t any32(void)
+{
+    uint64_t z = random_state += UINT64_C(0x9E3779B97F4A7C15);
+    z = (z ^ z >> 30) * UINT64_C(0xBF58476D1CE4E5B9);
+    z = (z ^ z >> 27) * UINT64_C(0x94D049BB133111EB);
+    return (uint32_t)(z >> 32);
+}
+
+static unsigned below(unsigned n) { return (unsigned)((uint64_t)any32() * n >> 32); }
+static unsigned between(unsigned low, unsigned high) { return low + below(high - low + 1); }
+static bool chance(unsigned percent) { return below(100) < percent; }
+
+/* Random numbers are drawn in statements of their own wherever C leaves open
+ * which of two draws comes first, so that every compiler makes the same run. */
+
+static void any_bytes(uint8_t *bytes, size_t n)
+{
+    size_t i = 0;
+    for (; i + 4 <= n; i += 4) {
+        uint32_t four = any32();
+        memcpy(bytes + i, &four, 4);
+    }
+    for (; i < n; i++)
+        bytes[i] = (uint8_t)any32();
+}
+
+/* Flips so many bits, drawn from a range of them; one may be drawn twice. */
+static void flip_bits(uint8_t *bytes, unsigned from, unsigned to, unsigned times)
+{
+    while (times-- > 0) {
+        unsigned bit = between(from, to);
+        bytes[bit / 8] ^= (uint8_t)(0x80 >> bit % 8);
+    }
+}
+
+/* ---- room with a page after it that cannot be touched ---- */
+
+/* The end of `size` bytes of room. Buffers are laid so that they end there,
+ * and a call that goes past its buffer stops the run. */
+static uint8_t *room_end(size_t size)
+{
+    size_t page = (size_t)sysconf(_SC_PAGESIZE), whole;
+    uint8_t *start;
+    if (page < 65536)
+        page = 65536;
+    whole = (size + page - 1) / page * page;
+    start = mmap(NULL, whole + page, PROT_READ | PROT_WRITE, MAP_PRIVATE | MAP_ANONYMOUS, -1, 0);
+    if (start == MAP_FAILED || mprotect(start + whole, page, PROT_NONE) != 0) {
+        perror("compare: room");
+        exit(2);
+    }
+    return start + whole;
+}
+
+enum { MARGIN = 32, LOG_FRAMES = 8192, MOST_LEDGER = QVD_LEDGER_BYTES + 64 };
+
+static uint8_t *input_end, *output_end, *ledger_end, *log_end, *verdicts_end, *issues_end;
+
+/* ---- what is being compared, and the first difference in full ---- */
+
+enum call { OPEN, TAKE, REPLAY, READ, READ_FRAME, WRITE, ROWS, ROW, CALLS };
+static const char *const call_name[CALLS] = { "open", "take", "replay", "read", "read_frame", "write", "rows", "row" };
+
+enum { MOST_VERDICT = 40, WANTED = 500 };
+static unsigned long tally[CALLS][MOST_VERDICT];
+static unsigned long comparisons, differences;
+static unsigned long lists_with_rows, rows_seen, masks_changed, frames_noise;
+
+static struct {
+    const char *part;      /* of the run */
+    unsigned long number;  /* of the log, message or contents in it */
+    enum call call;
+    const uint8_t *input;
+    size_t input_bytes;
+    const uint16_t *issues;
+    size_t issue_count;
+    unsigned slot;
+    unsigned prn;
+    const uint8_t *log;    /* frames handed in so far, each with its length before it in two bytes */
+    size_t log_bytes;
+} now;
+
+/* Begins a part of the run. Each has random numbers of its own, so that a
+ * change to one part leaves the others as they were. */
+static void begin(const char *part)
+{
+    now.part = part;
+    now.log = NULL;
+    random_state = seed * UINT64_C(0xD1342543DE82EF95);
+    while (*part != 0)
+        random_state = (random_state ^ (uint8_t)*part++) * UINT64_C(0x100000001B3);
+}
+
+static void print_bytes(const char *name, const uint8_t *bytes, size_t n)
+{
+    printf("  %s (%zu bytes):", name, n);
+    for (size_t i = 0; i < n; i++)
+        printf("%s%02X", i % 64 == 0 ? "\n    " : "", bytes[i]);
+    printf("\n");
+}
+
+static void print_case(const char *what)
+{
+    printf("compare: first difference: %s %lu, qvd_%s: %s\n", now.part, now.number, call_name[now.call], what);
+    if (now.call == ROW)
+        printf("  slot %u\n", now.slot);
+    if (now.call == OPEN || now.call == TAKE || now.call == REPLAY || now.log != NULL)
+        printf("  prn %u\n", now.prn);
+    if (now.input != NULL)
+        print_bytes("input", now.input, now.input_bytes);
+    if (now.issues != NULL) {
+        printf("  issues (%zu):", now.issue_count);
+        for (size_t i = 0; i < now.issue_count; i++)
+            printf("%s%u", i % 16 == 0 ? "\n    " : " ", now.issues[i]);
+        printf("\n");
+    }
+    for (size_t at = 0; now.log != NULL && at < now.log_bytes;) {
+        size_t n = (size_t)now.log[at] << 8 | now.log[at + 1];
+        print_bytes("frame handed in before", now.log + at + 2, n);
+        at += 2 + n;
+    }
+}
+
+static void same_number(const char *what, unsigned library, unsigned reference)
+{
+    comparisons++;
+    if (library == reference)
+        return;
+    if (differences++ == 0) {
+        print_case(what);
+        printf("  library %u, independent implementation %u\n", library, reference);
+    }
+}
+
+static void same_bytes(const char *what, const uint8_t *library, const uint8_t *reference, size_t n)
+{
+    comparisons++;
+    if (memcmp(library, reference, n) == 0)
+        return;
+    if (differences++ == 0) {
+        size_t at = 0;
+        while (library[at] == reference[at])
+            at++;
+        print_case(what);
+        printf("  they differ from byte %zu on\n", at);
+        print_bytes("library", library, n);
+        print_bytes("should be", reference, n);
+    }
+}
+
+static void same_verdict(enum call call, unsigned library, unsigned reference)
+{
+    same_number("verdict", library, reference);
+    if (reference < MOST_VERDICT)
+        tally[call][reference]++;
+}
+
+/* A call that went past its buffer ends the run, but not without its case. */
+static void stopped(int signal_number)
+{
+    if (differences == 0)
+        print_case("went past a buffer");
+    printf("outside: stopped by signal %d after %lu comparisons\n", signal_number, comparisons);
+    fflush(stdout);
+    _exit(1);
+}
+
+/* A lent output of n bytes, filled at random, with a margin before it. What it
+ * should be afterwards is prepared in `should`. */
+static struct {
+    uint8_t should[MARGIN + QVD_ROWS_BYTES + 64];
+    size_t n;
+} lent;
+
+static uint8_t *lend(size_t n)
+{
+    lent.n = n;
+    any_bytes(lent.should, MARGIN + n);
+    memcpy(output_end - n - MARGIN, lent.should, MARGIN + n);
+    return output_end - n;
+}
+
+static void lent_is_right(const char *what)
+{
+    same_bytes(what, output_end - lent.n - MARGIN, lent.should, MARGIN + lent.n);
+}
+
+/* ---- a message, bit by bit ---- */
+
+/* What the messages of one log are inclined to say, so that masks, orbits,
+ * clocks and issues meet. */
+struct leaning {
+    bool has_mask;
+    uint8_t iod_ssr, iodp;
+    unsigned places;
+    uint8_t slot_at[SLOTS + 1];
+    uint16_t iodn[SLOTS + 1];
+    uint8_t iod_corr[SLOTS + 1];
+    struct mask pool[6];
+    unsigned pool_now;
+};
+
+static struct {
+    uint8_t bytes[MESSAGE_BYTES];
+    size_t at;
+    bool faulty; /* slips may happen */
+    bool junky;  /* reserved bits are set at random */
+} draft;
+
+static void put(unsigned width, uint32_t value)
+{
+    for (unsigned i = 0; i < width; i++, draft.at++)
+        if (draft.at < CHECKED_BITS)
+            ref_put_bits(draft.bytes, draft.at, 1, value >> (width - 1 - i) & 1);
+}
+
+static void put_reserved(unsigned width)
+{
+    for (unsigned i = 0; i < width; i++)
+        put(1, draft.junky ? any32() & 1 : 0);
+}
+
+static bool slip(unsigned percent) { return draft.faulty && chance(percent); }
+
+static uint32_t some_epoch(void)
+{
+    if (slip(8))
+        return chance(50) ? 86400 : between(86400, 131071);
+    return chance(5) ? 86399 : below(86400);
+}
+
+static uint32_t some_value(unsigned width)
+{
+    uint32_t top = UINT32_C(1) << (width - 1);
+    switch (below(24)) {
+    case 0: return top;           /* the most negative: unusable */
+    case 1: return top - 1;
+    case 2: return top + 1;
+    case 3: return 0;
+    case 4: return 2 * top - 1;
+    default: return below(2 * top);
+    }
+}
+
+static unsigned some_ura(void)
+{
+    switch (below(20)) {
+    case 0: return 0;
+    case 1: return 63;
+    case 2: return 62;
+    case 3: return 1;
+    default: return below(64);
+    }
+}
+
+static unsigned some_slot(const struct leaning *l)
+{
+    if (slip(6))
+        return chance(40) ? 256 : between(256, 511);
+    if (chance(10))
+        return 0;
+    if (chance(4))
+        return between(175, 255);
+    if (l->has_mask && l->places > 0 && chance(80))
+        return l->slot_at[between(1, l->places)];
+    return between(1, 174);
+}
+
+/* A slot that is not among the n before it, unless by a slip. */
+static unsigned fresh_slot(const struct leaning *l, const uint16_t *before, unsigned n)
+{
+    if (n > 0 && slip(6))
+        return before[below(n)];
+    for (int attempt = 0; attempt < 8; attempt++) {
+        unsigned slot = some_slot(l);
+        bool used = false;
+        for (unsigned i = 0; i < n; i++)
+            used = used || before[i] == slot;
+        if (slot == 0 || !used)
+            return slot;
+    }
+    return 0;
+}
+
+static unsigned some_corr(const struct leaning *l, unsigned slot)
+{
+    return slot >= 1 && slot <= SLOTS && chance(88) ? l->iod_corr[slot] : below(8);
+}
+
+static void put_head(const struct leaning *l)
+{
+    put(17, some_epoch());
+    put_reserved(4);
+    put(2, chance(94) ? l->iod_ssr : below(4));
+}
+
+static void put_orbits(const struct leaning *l, unsigned count)
+{
+    uint16_t before[8];
+    put_head(l);
+    for (unsigned i = 0; i < count; i++) {
+        unsigned slot = fresh_slot(l, before, i);
+        before[i] = (uint16_t)slot;
+        put(9, slot);
+        put(10, slot >= 1 && slot <= SLOTS && chance(92) ? l->iodn[slot] : below(1024));
+        put(3, some_corr(l, slot));
+        put(15, some_value(15));
+        put(13, some_value(13));
+        put(13, some_value(13));
+        put(6, some_ura());
+    }
+}
+
+static void put_placed_clock(const struct leaning *l, unsigned place)
+{
+    put(3, some_corr(l, place >= 1 && place <= l->places ? l->slot_at[place] : 0));
+    put(15, some_value(15));
+}
+
+static void put_mask(struct leaning *l)
+{
+    const struct mask *mask;
+    struct mask changed;
+
+    if (!chance(50))
+        l->pool_now = chance(30) ? 0 : below(6);
+    mask = &l->pool[l->pool_now];
+    if (slip(35)) {
+        changed = *mask;
+        changed.set[chance(30) ? 175 : chance(30) ? 255 : between(175, 255)] = true;
+        mask = &changed;
+    }
+    put(17, some_epoch());
+    put_reserved(4);
+    put(2, mask->iod_ssr);
+    put(4, mask->iodp);
+    for (int slot = 1; slot <= SLOTS; slot++)
+        put(1, mask->set[slot]);
+}
+
+static void put_mask_names(const struct leaning *l)
+{
+    put_head(l);
+    put(4, chance(94) ? l->iodp : below(16));
+}
+
+static void put_type_4(const struct leaning *l)
+{
+    unsigned subs = (l->places + 22) / 23, sub = subs > 0 ? below(subs) : 0;
+    if (slip(15))
+        sub = chance(50) ? subs : below(32);
+    put_mask_names(l);
+    put(5, sub);
+    for (unsigned j = 1; j <= CLOCKS; j++)
+        put_placed_clock(l, 23 * sub + j);
+}
+
+/* Counts for type 6 or 7, that fit unless by a slip. */
+static void some_counts(unsigned kind, unsigned most_c, unsigned *num_c, unsigned *num_o)
+{
+    unsigned fits = 0;
+    *num_o = chance(25) ? 0 : below(7);
+    while (fits < 31 && ref_end(kind, fits + 1, *num_o) <= CHECKED_BITS)
+        fits++;
+    if (fits > most_c)
+        fits = most_c;
+    *num_c = chance(30) ? fits : below(fits + 1);
+    if (slip(8))
+        *num_c = fits + 1;
+    if (slip(4)) {
+        *num_c = below(32);
+        *num_o = below(8);
+    }
+}
+
+static void put_type_6(const struct leaning *l)
+{
+    unsigned num_c, num_o, first = 1;
+    some_counts(6, chance(95) ? l->places : 31, &num_c, &num_o);
+    if (l->places >= num_c) {
+        unsigned last_first = l->places - num_c + 1;
+        first = chance(35) ? last_first : between(1, last_first);
+        if (slip(10))
+            first = last_first + 1;
+    }
+    if (slip(8))
+        first = chance(50) ? 0 : chance(50) ? 256 : between(256, 511);
+    put(5, num_c);
+    put(3, num_o);
+    if (num_c > 0) {
+        put_mask_names(l);
+        put(9, first);
+        for (unsigned j = 0; j < num_c; j++)
+            put_placed_clock(l, first + j);
+    }
+    if (num_o > 0)
+        put_orbits(l, num_o);
+}
+
+static void put_type_7(const struct leaning *l)
+{
+    unsigned num_c, num_o;
+    uint16_t before[32];
+    some_counts(7, 31, &num_c, &num_o);
+    put(5, num_c);
+    put(3, num_o);
+    if (num_c > 0) {
+        put_head(l);
+        for (unsigned j = 0; j < num_c; j++) {
+            unsigned slot = fresh_slot(l, before, j);
+            before[j] = (uint16_t)slot;
+            put(9, slot);
+            put(3, some_corr(l, slot));
+            put(15, some_value(15));
+        }
+    }
+    if (num_o > 0)
+        put_orbits(l, num_o);
+}
+
+static unsigned some_kind(void)
+{
+    static const uint8_t good[] = { 1, 2, 2, 2, 2, 4, 4, 4, 4, 4, 6, 6, 6, 6, 7, 7, 7, 7, 63 };
+    if (slip(8))
+        return 1;
+    if (slip(5)) {
+        unsigned kind = below(64);
+        return chance(30) ? (chance(50) ? 3 : 5) : kind;
+    }
+    return good[below(sizeof good)];
+}
+
+static void put_check(void) { ref_put_bits(draft.bytes, CHECKED_BITS, 24, ref_check(draft.bytes)); }
+
+/* A message into draft.bytes; kind 0 is any. */
+static void make_message(struct leaning *l, unsigned kind, unsigned faulty_percent)
+{
+    memset(&draft, 0, sizeof draft);
+    draft.faulty = chance(faulty_percent);
+    draft.junky = chance(30);
+    if (kind == 0)
+        kind = some_kind();
+    put(6, kind);
+    if (slip(2)) {
+        while (draft.at < CHECKED_BITS)
+            put(1, any32() & 1);
+    } else {
+        switch (kind) {
+        case 1: put_mask(l); break;
+        case 2: put_orbits(l, ORBITS); break;
+        case 4: put_type_4(l); break;
+        case 6: put_type_6(l); break;
+        case 7: put_type_7(l); break;
+        default: break;
+        }
+    }
+    if (draft.at < CHECKED_BITS)
+        put_reserved((unsigned)(CHECKED_BITS - draft.at));
+    put_check();
+    if (slip(6)) {
+        if (chance(50))
+            ref_put_bits(draft.bytes, CHECKED_BITS, 24, ref_check(draft.bytes) ^ (1u << below(24)));
+        else
+            flip_bits(draft.bytes, 0, CHECKED_BITS - 1, 1);
+    }
+}
+
+/* ---- masks and leanings ---- */
+
+static unsigned some_mask_size(void)
+{
+    static const uint8_t sizes[] = { 0, 1, 2, 22, 23, 24, 45, 46, 47, 48, 68, 69, 70, 92, 115, 138, 161, 162, 173, 174 };
+    return chance(60) ? sizes[below(sizeof sizes)] : chance(70) ? between(4, 60) : below(175);
+}
+
+static void some_mask(struct mask *mask)
+{
+    unsigned left = some_mask_size();
+    memset(mask, 0, sizeof *mask);
+    mask->iod_ssr = (uint8_t)below(4);
+    mask->iodp = (uint8_t)below(16);
+    /* Each slot is taken with the chance that the number still wanted needs. */
+    for (unsigned slot = 1; slot <= ASSIGNED_SLOTS; slot++)
+        if (below(ASSIGNED_SLOTS + 1 - slot) < left) {
+            mask->set[slot] = true;
+            left--;
+        }
+}
+
+static void lean_on_mask(struct leaning *l, const struct mask *mask)
+{
+    l->has_mask = true;
+    l->iod_ssr = mask->iod_ssr;
+    l->iodp = mask->iodp;
+    l->places = 0;
+    for (int slot = 1; slot <= SLOTS; slot++)
+        if (mask->set[slot])
+            l->slot_at[++l->places] = (uint8_t)slot;
+}
+
+/* A pool of masks that differ little: the first; then in IODP, in IOD SSR, in
+ * one bit alone; then another altogether; then the first with its last bit the
+ * other way and another IODP. */
+static void some_leaning(struct leaning *l)
+{
+    unsigned corrs = 1 + below(3), slot;
+    memset(l, 0, sizeof *l);
+    some_mask(&l->pool[0]);
+    for (int i = 1; i < 6; i++)
+        l->pool[i] = l->pool[0];
+    l->pool[1].iodp = (uint8_t)((l->pool[0].iodp + 1) % 16);
+    l->pool[2].iod_ssr = (uint8_t)((l->pool[0].iod_ssr + 1) % 4);
+    slot = chance(20) ? 1 : chance(20) ? ASSIGNED_SLOTS : between(1, ASSIGNED_SLOTS);
+    l->pool[3].set[slot] = !l->pool[3].set[slot];
+    some_mask(&l->pool[4]);
+    l->pool[5].iodp = (uint8_t)((l->pool[0].iodp + 15) % 16);
+    l->pool[5].set[ASSIGNED_SLOTS] = !l->pool[5].set[ASSIGNED_SLOTS];
+    lean_on_mask(l, &l->pool[0]);
+    l->has_mask = chance(90);
+    for (int i = 0; i <= SLOTS; i++) {
+        l->iodn[i] = (uint16_t)(chance(10) ? (chance(50) ? 0 : 1023) : below(1024));
+        l->iod_corr[i] = (uint8_t)below(corrs);
+    }
+}
+
+/* ---- damage to a frame ---- */
+
+/* Damages a frame in one or several ways; what it answers is its length. */
+static size_t damage(uint8_t *frame, size_t most)
+{
+    size_t length = FRAME_BYTES;
+    bool several = chance(25);
+    unsigned group;
+    do {
+        switch (below(8)) {
+        case 0: flip_bits(frame, 0, 15, 1 + below(2)); break;
+        case 1: ref_put_bits(frame, 16, 6, chance(50) ? below(64) : chance(50) ? 59 : 1 + below(5)); break;
+        case 2: ref_put_bits(frame, 22, 1, 1); break;
+        case 3: flip_bits(frame, 28, 28 + 485, 1 + below(3)); break;
+        case 4: flip_bits(frame, 28 + 486, 999, 1 + below(3)); break;
+        case 5: group = below(GROUPS); ref_spoil(frame, group, (uint8_t)between(1, 63)); break;
+        case 6:
+            if (chance(30)) {
+                any_bytes(frame, FRAME_BYTES);
+                frames_noise++;
+            } else {
+                flip_bits(frame, 0, 999, 1 + below(40));
+            }
+            break;
+        default:
+            length = chance(30) ? below(FRAME_BYTES)
+                   : chance(40) ? FRAME_BYTES - 1
+                   : chance(60) ? FRAME_BYTES + 1
+                                : between(FRAME_BYTES + 1, (unsigned)most);
+            break;
+        }
+    } while (several && chance(60));
+    return length;
+}
+
+/* ---- messages and frames without a ledger ---- */
+
+static void compare_reading(bool frame, const uint8_t *bytes, size_t n)
+{
+    uint8_t *input = input_end - n, *output;
+    struct contents c;
+    size_t room = chance(1) ? (chance(50) ? QVD_CONTENTS_BYTES - 1 : QVD_CONTENTS_BYTES + below(8)) : QVD_CONTENTS_BYTES;
+    unsigned library, reference = 39;
+
+    memcpy(input, bytes, n);
+    output = lend(room);
+    now.call = frame ? READ_FRAME : READ;
+    now.input = input;
+    now.input_bytes = n;
+    now.issues = NULL;
+    library = frame ? qvd_read_frame(input, n, output, room) : qvd_read(input, n, output, room);
+    if (room == QVD_CONTENTS_BYTES) {
+        reference = frame ? ref_read_frame(bytes, n, &c) : ref_read(bytes, n, &c);
+        contents_to_bytes(&c, lent.should + MARGIN);
+    }
+    same_verdict(now.call, library, reference);
+    lent_is_right("contents");
+    same_bytes("the input afterwards", input, bytes, n);
+}
+
+static void compare_messages(unsigned long count)
+{
+    struct leaning l;
+    uint8_t bytes[256];
+
+    begin("message");
+    for (unsigned long i = 0; i < count; i++) {
+        size_t n = MESSAGE_BYTES;
+        now.number = i;
+        if (i % 50 == 0)
+            some_leaning(&l);
+        make_message(&l, 0, 40);
+        any_bytes(bytes, sizeof bytes);
+        memcpy(bytes, draft.bytes, MESSAGE_BYTES);
+        if (chance(5))
+            bytes[MESSAGE_BYTES - 1] |= (uint8_t)between(1, 3);
+        if (chance(4))
+            flip_bits(bytes, 0, 8 * MESSAGE_BYTES - 1, 1);
+        if (chance(3))
+            n = chance(50) ? (chance(50) ? 60 : 62) : below(sizeof bytes);
+        compare_reading(false, bytes, n);
+    }
+}
+
+static void compare_frames(unsigned long count)
+{
+    struct leaning l;
+    uint8_t bytes[256];
+
+    begin("frame");
+    for (unsigned long i = 0; i < count; i++) {
+        size_t n = FRAME_BYTES;
+        unsigned prn = below(64);
+        now.number = i;
+        if (i % 50 == 0)
+            some_leaning(&l);
+        make_message(&l, 0, 50);
+        any_bytes(bytes, sizeof bytes);
+        ref_encode(draft.bytes, prn, chance(70) ? 0 : below(32), bytes);
+        if (chance(25))
+            n = damage(bytes, sizeof bytes);
+        compare_reading(true, bytes, n);
+    }
+}
+
+/* ---- writing ---- */
+
+/* Where the fields lie in the form of contents. */
+enum {
+    F_KIND = 0,
+    F_MASK = 1,
+    F_BITS = 7,
+    F_CLOCKS = 262,
+    F_FIRST = 268,
+    F_NUM_C = 270,
+    F_CLOCK = 271,
+    F_ORBITS = 386,
+    F_NUM_O = 391,
+    F_ORBIT = 392
+};
+
+static void form_put(uint8_t *form, size_t at, int size, uint32_t value)
+{
+    for (int i = 0; i < size; i++)
+        form[at + (size_t)i] = (uint8_t)(value >> 8 * (size - 1 - i));
+}
+
+#define PICK(list) list[below(sizeof list / sizeof list[0])]
+
+static void tweak_head(uint8_t *form, size_t part)
+{
+    static const uint32_t epochs[] = { 0, 86399, 86400, 86401, 131071, 131072, 0x15180 << 8, 0xFFFFFFFF };
+    static const uint8_t ssrs[] = { 0, 3, 4, 7, 255 };
+    if (chance(60))
+        form_put(form, part, 4, PICK(epochs));
+    else
+        form_put(form, part + 4, 1, PICK(ssrs));
+}
+
+static void tweak_slot(uint8_t *form, size_t at, size_t other)
+{
+    static const uint16_t slots[] = { 0, 1, 63, 174, 175, 255, 256, 257, 511, 512, 65535 };
+    if (chance(40))
+        memmove(form + at, form + other, 2);
+    else
+        form_put(form, at, 2, PICK(slots));
+}
+
+static void tweak_clock(uint8_t *form)
+{
+    static const uint16_t values[] = { 0, 16383, 16384, 49152, 49151, 32767, 32768, 65535 };
+    static const uint8_t corrs[] = { 0, 7, 8, 255 };
+    unsigned most = form[F_NUM_C] > 0 && form[F_NUM_C] <= CLOCKS ? form[F_NUM_C] : CLOCKS;
+    unsigned which = chance(80) ? below(most) : below(CLOCKS);
+    size_t at = F_CLOCK + 5 * (size_t)which;
+    switch (below(3)) {
+    case 0: tweak_slot(form, at, F_CLOCK + 5 * (size_t)below(most)); break;
+    case 1: form_put(form, at + 2, 1, PICK(corrs)); break;
+    default: form_put(form, at + 3, 2, PICK(values)); break;
+    }
+}
+
+static uint32_t some_quarters(void)
+{
+    static const uint32_t odd[] = { 0, 1, 2, 58, 59, 60, 21865, 21866, 21867, 24053, 65536 + 59, 0xFFFFFFFF };
+    uint32_t more = chance(20) ? 1 : 0;
+    return chance(60) ? ref_ura(between(1, 62)).quarters + more : PICK(odd);
+}
+
+static void tweak_orbit(uint8_t *form)
+{
+    static const uint16_t radials[] = { 0, 16383, 16384, 49152, 49151, 32767, 32768, 65535 };
+    static const uint16_t others[] = { 0, 4095, 4096, 61440, 61439, 32767, 32768, 65535 };
+    static const uint16_t iodns[] = { 0, 1023, 1024, 65535 };
+    static const uint8_t corrs[] = { 0, 7, 8, 255 };
+    unsigned most = form[F_NUM_O] > 0 && form[F_NUM_O] <= ORBITS ? form[F_NUM_O] : ORBITS;
+    unsigned which = chance(80) ? below(most) : below(ORBITS);
+    size_t at = F_ORBIT + 16 * (size_t)which;
+    switch (below(8)) {
+    case 0:
+    case 1: tweak_slot(form, at, F_ORBIT + 16 * (size_t)below(most)); break;
+    case 2: form_put(form, at + 2, 2, PICK(iodns)); break;
+    case 3: form_put(form, at + 4, 1, PICK(corrs)); break;
+    case 4: form_put(form, at + 5, 2, PICK(radials)); break;
+    case 5: at += chance(50) ? 7 : 9; form_put(form, at, 2, PICK(others)); break;
+    case 6:
+        form_put(form, at + 11, 1, URA_QUARTERS);
+        form_put(form, at + 12, 4, some_quarters());
+        break;
+    default: form_put(form, at + 11, 1, below(3)); break;
+    }
+}
+
+static void tweak_mask(uint8_t *form)
+{
+    static const uint8_t iodps[] = { 0, 15, 16, 255 };
+    static const uint8_t bits[] = { 0, 1, 1, 2, 128, 255 };
+    unsigned slot;
+    switch (below(5)) {
+    case 0: tweak_head(form, F_MASK); break;
+    case 1: form_put(form, F_MASK + 5, 1, PICK(iodps)); break;
+    case 2: slot = between(1, 174); form_put(form, F_BITS + slot - 1, 1, PICK(bits)); break;
+    default:
+        slot = chance(50) ? between(174, 175) : between(175, 255);
+        form_put(form, F_BITS + slot - 1, 1, PICK(bits));
+        break;
+    }
+}
+
+static void tweak_clocks(uint8_t *form)
+{
+    static const uint8_t iodps[] = { 0, 15, 16, 255 };
+    static const uint16_t firsts[] = { 0, 1, 31, 32, 255, 256, 511, 512, 65535 };
+    switch (below(7)) {
+    case 0:
+    case 1: tweak_head(form, F_CLOCKS); break;
+    case 2: form_put(form, F_CLOCKS + 5, 1, PICK(iodps)); break;
+    case 3: form_put(form, F_FIRST, 2, PICK(firsts)); break;
+    default: tweak_clock(form); break;
+    }
+}
+
+static void tweak_orbits(uint8_t *form)
+{
+    if (chance(25))
+        tweak_head(form, F_ORBITS);
+    else
+        tweak_orbit(form);
+}
+
+/* The counts of a type 6 or 7 that just fit, or just do not. */
+static void tweak_counts(uint8_t *form)
+{
+    unsigned num_c = 0, num_o = below(7);
+    while (num_c < CLOCKS && ref_end(form[F_KIND], num_c + 1, num_o) <= CHECKED_BITS)
+        num_c++;
+    form_put(form, F_NUM_C, 1, num_c + below(2));
+    form_put(form, F_NUM_O, 1, num_o);
+    if (chance(80))
+        form_put(form, F_FIRST, 2, between(1, 255));
+}
+
+/* Changes one field, mostly of a part that the type has. */
+static void tweak(uint8_t *form)
+{
+    static const uint8_t counts[] = { 0, 1, 2, 3, 5, 6, 7, 8, 15, 16, 22, 23, 24, 31, 32, 255 };
+    static const uint8_t kinds[] = { 0, 1, 2, 3, 4, 5, 6, 7, 8, 62, 63, 64, 255 };
+    unsigned kind = form[F_KIND];
+
+    if (chance(5)) {
+        form_put(form, F_KIND, 1, PICK(kinds));
+    } else if ((kind == 6 || kind == 7) && chance(12)) {
+        tweak_counts(form);
+    } else if (chance(8)) {
+        size_t which = chance(50) ? F_NUM_C : F_NUM_O;
+        form_put(form, which, 1, PICK(counts));
+    } else if (kind == 1 && chance(90)) {
+        tweak_mask(form);
+    } else if (kind == 2 && chance(90)) {
+        tweak_orbits(form);
+    } else if (kind == 4 && chance(90)) {
+        tweak_clocks(form);
+    } else {
+        switch (below(9)) {
+        case 0: tweak_mask(form); break;
+        case 1:
+        case 2:
+        case 3:
+        case 4: tweak_clocks(form); break;
+        default: tweak_orbits(form); break;
+        }
+    }
+}
+
+static void keep(uint8_t *form, const uint8_t *from, size_t at, size_t n) { memcpy(form + at, from + at, n); }
+
+/* Puts random bytes wherever writing does not look. */
+static void junk_unread(uint8_t *form)
+{
+    uint8_t from[QVD_CONTENTS_BYTES];
+    unsigned kind = form[F_KIND], num_c = 0, num_o = 0;
+
+    memcpy(from, form, sizeof from);
+    any_bytes(form, QVD_CONTENTS_BYTES);
+    form[F_KIND] = (uint8_t)kind;
+    if (kind == 1) {
+        keep(form, from, F_MASK, 6 + SLOTS);
+        for (int i = 0; i < SLOTS; i++)
+            if (form[F_BITS + i] == 0 && chance(20))
+                form[F_BITS + i] = (uint8_t)between(2, 255);
+    } else if (kind == 2) {
+        num_o = ORBITS;
+    } else if (kind == 4) {
+        num_c = CLOCKS;
+    } else if (kind == 6 || kind == 7) {
+        keep(form, from, F_NUM_C, 1);
+        keep(form, from, F_NUM_O, 1);
+        num_c = form[F_NUM_C] < CLOCKS ? form[F_NUM_C] : CLOCKS;
+        num_o = form[F_NUM_O] < ORBITS ? form[F_NUM_O] : ORBITS;
+    }
+    if (num_c > 0) {
+        keep(form, from, F_CLOCKS, 5);
+        if (kind != 7)
+            keep(form, from, F_CLOCKS + 5, 3);
+    }
+    for (unsigned i = 0; i < num_c; i++) {
+        size_t at = F_CLOCK + 5 * (size_t)i;
+        if (kind == 7)
+            keep(form, from, at, 2);
+        if (kind != 7 || form[at] != 0 || form[at + 1] != 0)
+            keep(form, from, at + 2, 3);
+    }
+    if (num_o > 0)
+        keep(form, from, F_ORBITS, 5);
+    for (unsigned i = 0; i < num_o; i++) {
+        size_t at = F_ORBIT + 16 * (size_t)i;
+        keep(form, from, at, 2);
+        if (form[at] != 0 || form[at + 1] != 0)
+            keep(form, from, at + 2, from[at + 11] == URA_QUARTERS ? 14 : 10);
+    }
+}
+
+static void compare_writing(const uint8_t *form, size_t n, size_t room)
+{
+    uint8_t *input = input_end - n, *output;
+    struct contents c;
+    unsigned library, reference = 39;
+
+    memcpy(input, form, n);
+    output = lend(room);
+    now.call = WRITE;
+    now.input = input;
+    now.input_bytes = n;
+    now.issues = NULL;
+    library = qvd_write(input, n, output, room);
+    if (n == QVD_CONTENTS_BYTES) {
+        contents_from_bytes(form, &c);
+        reference = ref_write(&c, lent.should + MARGIN, room);
+    }
+    same_verdict(WRITE, library, reference);
+    lent_is_right("room");
+    same_bytes("the input afterwards", input, form, n);
+}
+
+static void compare_writes(unsigned long count)
+{
+    static const uint8_t kinds[] = { 1, 1, 1, 2, 2, 2, 4, 4, 4, 6, 6, 6, 6, 7, 7, 7, 7, 63 };
+    struct leaning l;
+    struct contents c;
+    uint8_t form[QVD_CONTENTS_BYTES + 8];
+
+    begin("contents");
+    for (unsigned long i = 0; i < count; i++) {
+        size_t n = QVD_CONTENTS_BYTES, room = MESSAGE_BYTES;
+        now.number = i;
+        if (i % 50 == 0)
+            some_leaning(&l);
+        do
+            make_message(&l, PICK(kinds), 0);
+        while (ref_read(draft.bytes, MESSAGE_BYTES, &c) != 0);
+        any_bytes(form, sizeof form);
+        contents_to_bytes(&c, form);
+        if (chance(60)) {
+            do
+                tweak(form);
+            while (chance(40));
+        }
+        if (chance(50))
+            junk_unread(form);
+        if (chance(1))
+            n = QVD_CONTENTS_BYTES - 2 + below(8);
+        if (chance(3))
+            room = chance(60) ? (chance(50) ? 60 : 62) : below(128);
+        compare_writing(form, n, room);
+        /* What was written is read again. */
+        if (room == MESSAGE_BYTES && n == QVD_CONTENTS_BYTES && chance(20)) {
+            uint8_t written[MESSAGE_BYTES];
+            memcpy(written, lent.should + MARGIN, MESSAGE_BYTES);
+            written[MESSAGE_BYTES - 1] &= 0xFC;
+            compare_reading(false, written, MESSAGE_BYTES);
+        }
+    }
+}
+
+/* ---- the ledger and its list ---- */
+
+/* The library's ledger, with a margin before and up to 8 bytes after it. */
+static uint8_t *ledger;
+static struct ledger reference_ledger;
+static uint8_t ledger_before[MARGIN + MOST_LEDGER];
+
+static void place_ledger(void)
+{
+    ledger = ledger_end - QVD_LEDGER_BYTES - (chance(50) ? 0 : below(9));
+    any_bytes(ledger - MARGIN, (size_t)(ledger_end - ledger) + MARGIN);
+}
+
+static void remember_ledger(void)
+{
+    memcpy(ledger_before, ledger - MARGIN, (size_t)(ledger_end - ledger) + MARGIN);
+}
+
+static void ledger_is_unchanged(void)
+{
+    same_bytes("the ledger afterwards", ledger - MARGIN, ledger_before, (size_t)(ledger_end - ledger) + MARGIN);
+}
+
+static void margins_are_unchanged(void)
+{
+    size_t after = (size_t)(ledger_end - ledger) - QVD_LEDGER_BYTES;
+    same_bytes("before the ledger", ledger - MARGIN, ledger_before, MARGIN);
+    if (after > 0)
+        same_bytes("after the ledger", ledger + QVD_LEDGER_BYTES, ledger_before + MARGIN + QVD_LEDGER_BYTES, after);
+}
+
+/* A length that is not the ledger's, now and then. */
+static size_t some_ledger_length(void)
+{
+    size_t room = (size_t)(ledger_end - ledger);
+    if (!chance(1))
+        return QVD_LEDGER_BYTES;
+    return chance(30) ? 0 : chance(50) ? QVD_LEDGER_BYTES - 1 : room;
+}
+
+/* Opens; whether there is then a ledger is answered. */
+static bool compare_open(unsigned prn)
+{
+    size_t n = some_ledger_length();
+    unsigned library, reference = 39;
+
+    now.call = OPEN;
+    now.input = NULL;
+    now.issues = NULL;
+    now.prn = prn;
+    remember_ledger();
+    library = qvd_open(ledger, n, (uint8_t)prn);
+    if (n == QVD_LEDGER_BYTES)
+        reference = ref_open(&reference_ledger, prn);
+    same_verdict(OPEN, library, reference);
+    if (reference != 0)
+        ledger_is_unchanged();
+    else
+        margins_are_unchanged();
+    return reference == 0;
+}
+
+static void compare_take(const uint8_t *frame, size_t m)
+{
+    uint8_t *input = input_end - m;
+    size_t n = some_ledger_length();
+    unsigned library, reference = 39;
+
+    memcpy(input, frame, m);
+    now.call = TAKE;
+    now.input = input;
+    now.input_bytes = m;
+    now.issues = NULL;
+    remember_ledger();
+    library = qvd_take(ledger, n, input, m);
+    if (n == QVD_LEDGER_BYTES)
+        reference = ref_take(&reference_ledger, frame, m);
+    same_verdict(TAKE, library, reference);
+    if (reference != 0)
+        ledger_is_unchanged();
+    else
+        margins_are_unchanged();
+    same_bytes("the input afterwards", input, frame, m);
+}
+
+/* Issues that mostly meet the leaning's IODN; now and then a wrong one or a
+ * wrong number of them. Their number is answered. */
+static size_t some_issues(const struct leaning *l, uint16_t issues[SLOTS + 8])
+{
+    bool sparse = chance(10), wrong = chance(7);
+    for (unsigned i = 0; i < SLOTS + 8; i++) {
+        unsigned slot = i + 1;
+        issues[i] = slot > SLOTS || sparse || chance(4) ? (uint16_t)(chance(50) ? NO_ISSUE : below(1024)) : l->iodn[slot];
+    }
+    if (wrong) {
+        unsigned at = chance(20) ? 0 : chance(20) ? SLOTS - 1 : below(SLOTS);
+        issues[at] = (uint16_t)(chance(30) ? 1024 : chance(30) ? 65534 : between(1024, 65534));
+    }
+    return chance(96) ? SLOTS : chance(50) ? (chance(50) ? SLOTS - 1 : SLOTS + 1) : below(SLOTS + 8);
+}
+
+static void ask_rows(const uint16_t *issues, size_t k)
+{
+    static struct row rows[ASSIGNED_SLOTS];
+    size_t n = some_ledger_length();
+    size_t r = chance(1) ? QVD_ROWS_BYTES - QVD_ROW_BYTES + below(2 * QVD_ROW_BYTES) : QVD_ROWS_BYTES, count = 0;
+    uint8_t *output = lend(r);
+    unsigned library, reference = 39;
+
+    now.call = ROWS;
+    library = qvd_rows(ledger, n, issues, k, output, r);
+    if (n == QVD_LEDGER_BYTES && r == QVD_ROWS_BYTES)
+        reference = ref_rows(&reference_ledger, issues, k, rows, &count);
+    if (reference == 0) {
+        memset(lent.should + MARGIN, 0, r);
+        for (size_t i = 0; i < count; i++)
+            row_to_bytes(&rows[i], lent.should + MARGIN + i * QVD_ROW_BYTES);
+        rows_seen += count;
+        lists_with_rows += count > 0;
+    }
+    same_verdict(ROWS, library, reference);
+    lent_is_right("rows");
+}
+
+static void ask_row(const struct leaning *l, const uint16_t *issues, size_t k)
+{
+    static const uint16_t odd[] = { 0, 1, 63, 64, 100, 101, 137, 138, 174, 175, 255, 256, 257, 511, 65535 };
+    size_t n = some_ledger_length();
+    size_t r = chance(1) ? QVD_ROW_BYTES - 1 + below(3) : QVD_ROW_BYTES;
+    uint8_t *output = lend(r);
+    struct row row;
+    unsigned library, reference = 39;
+
+    now.call = ROW;
+    now.slot = chance(25) ? PICK(odd)
+             : l->places > 0 && chance(80) ? l->slot_at[between(1, l->places)]
+             : chance(80) ? between(1, 255)
+                          : below(65536);
+    library = qvd_row(ledger, n, issues, k, (uint16_t)now.slot, output, r);
+    if (n == QVD_LEDGER_BYTES && r == QVD_ROW_BYTES)
+        reference = ref_row_of(&reference_ledger, issues, k, now.slot, &row);
+    if (reference == 0)
+        row_to_bytes(&row, lent.should + MARGIN);
+    same_verdict(ROW, library, reference);
+    lent_is_right("row");
+}
+
+static void compare_list(const struct leaning *l)
+{
+    uint16_t drawn[SLOTS + 8];
+    size_t k = some_issues(l, drawn);
+    uint16_t *issues = (uint16_t *)(void *)(issues_end - 2 * k);
+
+    memcpy(issues, drawn, 2 * k);
+    now.input = NULL;
+    now.issues = issues;
+    now.issue_count = k;
+    remember_ledger();
+    ask_rows(issues, k);
+    for (int i = 0; i < 4; i++)
+        ask_row(l, issues, k);
+    ledger_is_unchanged();
+    same_bytes("the issues afterwards", (uint8_t *)issues, (uint8_t *)drawn, 2 * k);
+}
+
+/* ---- logs ---- */
+
+static const uint8_t ten[] = { 1, 2, 3, 4, 5, 59, 60, 61, 62, 63 };
+
+/* The frames handed in for this log, for the report of a difference. */
+static uint8_t handed[(2 + 256) * 512];
+
+static void compare_replay(unsigned prn, const uint8_t *log, size_t m, const struct leaning *l)
+{
+    static uint8_t verdicts_should[MARGIN + LOG_FRAMES + 64];
+    size_t frames = (m + FRAME_BYTES - 1) / FRAME_BYTES, k = frames, n;
+    uint8_t *input = log_end - m, *verdicts;
+    unsigned library, reference = 39;
+
+    if (chance(6))
+        k = chance(50) ? frames + 1 : frames > 0 ? frames - 1 : 2;
+    if (chance(4))
+        prn = below(256);
+    memmove(input, log, m);
+    place_ledger();
+    remember_ledger();
+    n = some_ledger_length();
+    verdicts = verdicts_end - k;
+    any_bytes(verdicts_should, MARGIN + k);
+    memcpy(verdicts - MARGIN, verdicts_should, MARGIN + k);
+    now.call = REPLAY;
+    now.input = input;
+    now.input_bytes = m;
+    now.issues = NULL;
+    now.prn = prn;
+    now.log = NULL;
+    library = qvd_replay(ledger, n, (uint8_t)prn, input, m, verdicts, k);
+    if (n == QVD_LEDGER_BYTES && k == frames)
+        reference = ref_open(&reference_ledger, prn);
+    same_number("verdict on the log", library, reference);
+    if (reference == 0)
+        for (size_t i = 0; i < frames; i++) {
+            size_t at = i * FRAME_BYTES, left = m - at;
+            unsigned verdict = ref_take(&reference_ledger, input + at, left < FRAME_BYTES ? left : FRAME_BYTES);
+            verdicts_should[MARGIN + i] = (uint8_t)verdict;
+            tally[REPLAY][verdict]++;
+        }
+    else
+        tally[REPLAY][reference]++;
+    same_bytes("verdicts", verdicts - MARGIN, verdicts_should, MARGIN + k);
+    if (reference != 0) {
+        ledger_is_unchanged();
+        return;
+    }
+    margins_are_unchanged();
+    for (int i = 0; i < 3; i++)
+        compare_list(l);
+}
+
+static void compare_log(unsigned long number, unsigned length)
+{
+    static uint8_t log[FRAME_BYTES * 512];
+    struct leaning l;
+    uint8_t bytes[256];
+    size_t log_bytes = 0, handed_bytes = 0;
+    unsigned prn = ten[below(10)];
+    unsigned faulty = chance(30) ? 0 : chance(70) ? 25 : 60, damaged = chance(30) ? 0 : 12;
+    bool mask_first = chance(90);
+
+    now.number = number;
+    now.log = handed;
+    now.log_bytes = 0;
+    some_leaning(&l);
+    place_ledger();
+    while (!compare_open(prn))
+        ;
+    for (unsigned i = 0; i < length; i++) {
+        size_t n = FRAME_BYTES;
+        bool had_mask = reference_ledger.has_mask;
+        struct mask old = reference_ledger.mask;
+        make_message(&l, i == 0 && mask_first ? 1 : 0, i == 0 ? 0 : faulty);
+        any_bytes(bytes, sizeof bytes);
+        ref_encode(draft.bytes, prn, chance(80) ? 0 : below(32), bytes);
+        if (i > 0 && chance(damaged))
+            n = damage(bytes, sizeof bytes);
+        compare_take(bytes, n);
+        handed[handed_bytes] = (uint8_t)(n >> 8);
+        handed[handed_bytes + 1] = (uint8_t)n;
+        memcpy(handed + handed_bytes + 2, bytes, n);
+        handed_bytes += 2 + n;
+        now.log_bytes = handed_bytes;
+        if (n == FRAME_BYTES) {
+            memcpy(log + log_bytes, bytes, FRAME_BYTES);
+            log_bytes += FRAME_BYTES;
+        }
+        old.epoch = reference_ledger.mask.epoch;
+        if (had_mask != reference_ledger.has_mask || memcmp(&old, &reference_ledger.mask, sizeof old) != 0) {
+            masks_changed++;
+            compare_list(&l);
+            lean_on_mask(&l, &reference_ledger.mask);
+            compare_list(&l);
+        } else if (chance(12)) {
+            compare_list(&l);
+        }
+    }
+    compare_list(&l);
+    if (chance(70)) {
+        size_t rest = chance(40) ? 0 : below(FRAME_BYTES);
+        any_bytes(log + log_bytes, rest);
+        if (chance(20) && log_bytes > 0)
+            log_bytes -= 1 + below(FRAME_BYTES - 1), rest = 0;
+        compare_replay(prn, log, log_bytes + rest, &l);
+    }
+}
+
+/* Logs of no byte, of one, of noise, and of one frame over and over. */
+static void compare_odd_logs(void)
+{
+    static uint8_t log[FRAME_BYTES * LOG_FRAMES];
+    struct leaning l;
+
+    begin("odd log");
+    for (unsigned i = 0; i < 60; i++) {
+        size_t m = i % 3 == 0 ? 0 : i % 3 == 1 ? 1 : between(1, 3 * FRAME_BYTES);
+        now.number = i;
+        some_leaning(&l);
+        any_bytes(log, m);
+        compare_replay(ten[i % 10], log, m, &l);
+    }
+    for (unsigned i = 0; i < 10; i++) {
+        size_t frames = 300;
+        now.number = 60 + i;
+        some_leaning(&l);
+        any_bytes(log, frames * FRAME_BYTES);
+        for (size_t f = 0; f < frames; f++)
+            if (i % 2 == 1)
+                ref_put_bits(log + f * FRAME_BYTES, 0, 23, 0xEB90u << 7 | (unsigned)ten[i] << 1);
+        compare_replay(ten[i], log, frames * FRAME_BYTES, &l);
+    }
+    now.number = 70;
+    some_leaning(&l);
+    make_message(&l, 7, 0);
+    ref_encode(draft.bytes, 60, 0, log);
+    for (size_t f = 1; f < LOG_FRAMES; f++)
+        memcpy(log + f * FRAME_BYTES, log, FRAME_BYTES);
+    compare_replay(60, log, LOG_FRAMES * FRAME_BYTES - 1, &l);
+}
+
+/* Openings with every number as PRN, each on bytes that are anything. */
+static void compare_opens(unsigned rounds)
+{
+    begin("opening");
+    for (unsigned i = 0; i < 256 * rounds; i++) {
+        struct leaning l;
+        now.number = i;
+        place_ledger();
+        if (compare_open(i % 256)) {
+            some_leaning(&l);
+            compare_list(&l);
+        }
+    }
+}
+
+/* ---- the run ---- */
+
+/* The refusals that each call can give; each must have come WANTED times. (A
+ * replay's frames have all been taken one by one before.) */
+static const uint8_t gives[CALLS][16] = {
+    [OPEN] = { 4 },
+    [TAKE] = { 1, 3, 4, 5, 6, 7, 8, 9, 10, 11, 12, 13, 14, 15 },
+    [READ] = { 1, 2, 7, 8, 9, 10, 11, 12, 13 },
+    [READ_FRAME] = { 1, 3, 5, 6, 7, 8, 9, 10, 11, 12, 13 },
+    [WRITE] = { 1, 8, 9, 10, 11, 12, 13, 16 },
+    [ROWS] = { 1, 17 },
+    [ROW] = { 1, 11, 17, 18 },
+};
+
+static unsigned long calls_of(enum call call)
+{
+    unsigned long sum = 0;
+    for (int v = 0; v < MOST_VERDICT; v++)
+        sum += tally[call][v];
+    return sum;
+}
+
+static void print_table(void)
+{
+    printf("%-8s", "refusal");
+    for (int c = 0; c < CALLS; c++)
+        printf(" %10s", call_name[c]);
+    printf(" %10s\n", "all");
+    for (int v = 0; v < MOST_VERDICT; v++) {
+        unsigned long all = 0;
+        for (int c = 0; c < CALLS; c++)
+            all += tally[c][v];
+        if (all == 0)
+            continue;
+        if (v == 0)
+            printf("%-8s", "taken");
+        else
+            printf("%-8d", v);
+        for (int c = 0; c < CALLS; c++)
+            printf(" %10lu", tally[c][v]);
+        printf(" %10lu\n", all);
+    }
+    printf("%-8s", "all");
+    for (int c = 0; c < CALLS; c++)
+        printf(" %10lu", calls_of((enum call)c));
+    printf("\n%lu mask changes, %lu frames of noise, %lu lists with rows, %lu rows\n", masks_changed, frames_noise,
+           lists_with_rows, rows_seen);
+}
+
+/* Whether something that the run is to show came too seldom. */
+static bool too_few(void)
+{
+    bool few = false;
+    for (int c = 0; c < CALLS; c++)
+        for (int i = 0; i < 16 && gives[c][i] != 0; i++)
+            if (tally[c][gives[c][i]] < WANTED) {
+                printf("compare: refusal %d by qvd_%s came only %lu times\n", gives[c][i], call_name[c],
+                       tally[c][gives[c][i]]);
+                few = true;
+            }
+    if (calls_of(TAKE) < 100000 || calls_of(READ) < 100000 || calls_of(WRITE) < 50000 || lists_with_rows < 10000) {
+        printf("compare: fewer frames, messages or lists than the standard run has\n");
+        few = true;
+    }
+    return few;
+}
+
+int main(int argc, char **argv)
+{
+    unsigned long percent = argc > 2 ? strtoul(argv[2], NULL, 10) : 100, logs = 0;
+    bool few;
+
+    setvbuf(stdout, NULL, _IOLBF, 0);
+    signal(SIGSEGV, stopped);
+    signal(SIGBUS, stopped);
+    signal(SIGILL, stopped);
+    seed = argc > 1 ? strtoull(argv[1], NULL, 10) : 1;
+    input_end = room_end(1024);
+    output_end = room_end(MARGIN + QVD_ROWS_BYTES + 64);
+    ledger_end = room_end(MARGIN + MOST_LEDGER);
+    log_end = room_end(FRAME_BYTES * LOG_FRAMES);
+    verdicts_end = room_end(MARGIN + LOG_FRAMES + 64);
+    issues_end = room_end(2 * (SLOTS + 8));
+
+    compare_opens(4);
+    compare_odd_logs();
+    compare_messages(1200 * percent);
+    compare_frames(400 * percent);
+    compare_writes(800 * percent);
+    begin("log");
+    while (calls_of(TAKE) < 1200 * percent)
+        compare_log(logs++, 1 + below(chance(20) ? 10 : 300));
+
+    print_table();
+    few = percent >= 100 && too_few();
+    printf("outside: %lu comparisons, %lu differences\n", comparisons, differences);
+    return differences != 0 || few;
+}

@@ -1,0 +1,316 @@
+/* The worked examples of the rules, and the code word of the interface
+ * document's appendix, held against the independent implementation; the whole
+ * list also against the library, through its C boundary. */
+#include "library.h"
+#include "ref.h"
+
+#include <stdio.h>
+#include <string.h>
+
+static int checked, failed;
+
+#define CHECK(condition)                                                     \
+    do {                                                                     \
+        checked++;                                                           \
+        if (!(condition)) {                                                  \
+            failed++;                                                        \
+            printf("examples: line %d: not so: %s\n", __LINE__, #condition); \
+        }                                                                    \
+    } while (0)
+
+/* The appendix's code word: 81 message symbols and 81 parity symbols. */
+static const uint8_t code_word[SYMBOLS] = {
+    10, 50, 19, 33, 10, 38, 16, 41, 44, 47, 28, 5,  14, 58, 9,  52, 34, 63, 5,  28, 6,  61, 0,  49, 52, 55, 5,
+    25, 16, 51, 27, 58, 11, 16, 9,  8,  55, 37, 35, 9,  54, 39, 22, 32, 25, 4,  15, 7,  11, 15, 26, 3,  57, 60,
+    31, 31, 21, 57, 23, 7,  49, 24, 15, 25, 6,  8,  60, 61, 36, 3,  15, 22, 52, 0,  2,  10, 41, 46, 41, 28, 35,
+    36, 46, 57, 0,  55, 1,  22, 45, 50, 9,  27, 9,  26, 3,  11, 41, 21, 31, 13, 43, 30, 13, 61, 31, 20, 8,  6,
+    36, 3,  45, 12, 57, 59, 23, 10, 43, 45, 63, 1,  60, 15, 47, 10, 6,  40, 56, 24, 2,  19, 19, 46, 43, 19, 61,
+    26, 1,  7,  61, 11, 55, 48, 43, 49, 44, 50, 27, 31, 27, 12, 60, 51, 58, 15, 6,  29, 61, 39, 38, 5,  53, 34
+};
+
+/* The appendix's table from powers of x to symbols. */
+static const uint8_t power[63] = {
+    1,  2,  4,  8,  16, 32, 3,  6,  12, 24, 48, 35, 5,  10, 20, 40, 19, 38, 15, 30, 60,
+    59, 53, 41, 17, 34, 7,  14, 28, 56, 51, 37, 9,  18, 36, 11, 22, 44, 27, 54, 47, 29,
+    58, 55, 45, 25, 50, 39, 13, 26, 52, 43, 21, 42, 23, 46, 31, 62, 63, 61, 57, 49, 33
+};
+
+static void field(void)
+{
+    CHECK(ref_times(2, 32) == 3);
+    CHECK(ref_times(2, 63) == 61);
+    CHECK(ref_times(32, 32) == 48);
+    for (unsigned i = 0; i < 63; i++)
+        for (unsigned j = 0; j < 63; j++)
+            CHECK(ref_times(power[i], power[j]) == power[(i + j) % 63]);
+    for (unsigned a = 0; a < 64; a++)
+        CHECK(ref_times((uint8_t)a, 0) == 0 && ref_times(0, (uint8_t)a) == 0);
+}
+
+static void parity(void)
+{
+    uint8_t message[MESSAGE_BYTES] = { 0 }, frame[FRAME_BYTES], symbol[SYMBOLS];
+    struct contents c;
+
+    CHECK(ref_parity(code_word));
+    for (int i = 0; i < SYMBOLS; i++)
+        for (unsigned v = 1; v < 64; v++) {
+            memcpy(symbol, code_word, sizeof symbol);
+            symbol[i] ^= (uint8_t)v;
+            CHECK(!ref_parity(symbol));
+        }
+    /* The encoder makes the same parity from the message symbols. */
+    for (size_t i = 0; i < MESSAGE_SYMBOLS; i++)
+        ref_put_bits(message, 6 * i, 6, code_word[i]);
+    ref_encode(message, 60, 0, frame);
+    ref_symbols(frame, symbol);
+    CHECK(memcmp(symbol, code_word, SYMBOLS) == 0);
+    /* It is no message: its parity is right and its check bits are not. */
+    CHECK(ref_read_frame(frame, FRAME_BYTES, &c) == 7);
+    for (unsigned g = 0; g < GROUPS; g++) {
+        ref_encode(message, 60, 0, frame);
+        ref_spoil(frame, g, (uint8_t)(1 + g % 63));
+        CHECK(ref_read_frame(frame, FRAME_BYTES, &c) == 6);
+        ref_spoil(frame, g, (uint8_t)(1 + g % 63));
+        CHECK(ref_read_frame(frame, FRAME_BYTES, &c) == 7);
+    }
+}
+
+static void check_bits(void)
+{
+    uint8_t message[MESSAGE_BYTES] = { 0 };
+    struct contents c;
+
+    CHECK(ref_check(message) == 0);
+    CHECK(ref_read(message, MESSAGE_BYTES, &c) == 8);
+    ref_put_bits(message, CHECKED_BITS - 1, 1, 1);
+    CHECK(ref_check(message) == 0x864CFB);
+    CHECK(ref_read(message, MESSAGE_BYTES, &c) == 7);
+}
+
+static void ends(void)
+{
+    CHECK(ref_end(6, 22, 0) == 446);
+    CHECK(ref_end(6, 2, 5) == 454);
+    CHECK(ref_end(6, 3, 5) == 472);
+    CHECK(ref_end(7, 15, 0) == 442);
+    CHECK(ref_end(7, 2, 5) == 459);
+    CHECK(ref_end(7, 3, 5) == 486);
+    for (unsigned kind = 6; kind <= 7; kind++) {
+        struct contents c = { .kind = (uint8_t)kind };
+        uint8_t message[MESSAGE_BYTES];
+        c.clocks.first = 1;
+        c.clocks.count = 2;
+        c.orbits.count = 5;
+        CHECK(ref_write(&c, message, MESSAGE_BYTES) == 0);
+        c.clocks.count = 3;
+        CHECK(ref_write(&c, message, MESSAGE_BYTES) == 9);
+    }
+}
+
+static void uras(void)
+{
+    CHECK(ref_ura(0).kind == URA_UNKNOWN);
+    CHECK(ref_ura(1).kind == URA_QUARTERS && ref_ura(1).quarters == 1);
+    CHECK(ref_ura(19).kind == URA_QUARTERS && ref_ura(19).quarters == 59);
+    CHECK(ref_ura(62).kind == URA_QUARTERS && ref_ura(62).quarters == 21866);
+    CHECK(ref_ura(63).kind == URA_ABOVE);
+    for (unsigned code = 0; code < 64; code++)
+        CHECK(ref_ura_code(ref_ura(code)) == (int)code);
+    CHECK(ref_ura_code((struct ura){ URA_QUARTERS, 0 }) == -1);
+    CHECK(ref_ura_code((struct ura){ URA_QUARTERS, 58 }) == -1);
+    CHECK(ref_ura_code((struct ura){ URA_QUARTERS, 24053 }) == -1);
+}
+
+/* The frame of some contents, for PRN 60. */
+static void frame_of(const struct contents *c, uint8_t frame[FRAME_BYTES])
+{
+    uint8_t message[MESSAGE_BYTES];
+    CHECK(ref_write(c, message, MESSAGE_BYTES) == 0);
+    ref_encode(message, 60, 0, frame);
+}
+
+static unsigned take(struct ledger *ledger, const struct contents *c)
+{
+    uint8_t frame[FRAME_BYTES];
+    frame_of(c, frame);
+    return ref_take(ledger, frame, FRAME_BYTES);
+}
+
+static void epochs(void)
+{
+    struct contents c = { .kind = 1 }, back;
+    uint8_t message[MESSAGE_BYTES];
+
+    c.mask.epoch = 86399;
+    CHECK(ref_write(&c, message, MESSAGE_BYTES) == 0);
+    CHECK(ref_read(message, MESSAGE_BYTES, &back) == 0 && back.mask.epoch == 86399);
+    ref_put_bits(message, 6, 17, 86400);
+    ref_put_bits(message, CHECKED_BITS, 24, ref_check(message));
+    CHECK(ref_read(message, MESSAGE_BYTES, &back) == 10);
+    c.mask.epoch = 86400;
+    CHECK(ref_write(&c, message, MESSAGE_BYTES) == 10);
+}
+
+static void first_slots(struct ledger *ledger, int count)
+{
+    struct contents c = { .kind = 1 };
+    for (int slot = 1; slot <= count; slot++)
+        c.mask.set[slot] = true;
+    CHECK(take(ledger, &c) == 0);
+}
+
+static void places(void)
+{
+    struct ledger ledger;
+    struct contents four = { .kind = 4 }, six = { .kind = 6 };
+
+    CHECK(ref_open(&ledger, 60) == 0);
+    CHECK(take(&ledger, &four) == 14);
+    first_slots(&ledger, 46);
+    four.clocks.first = 1;
+    CHECK(take(&ledger, &four) == 0);
+    four.clocks.first = 2;
+    CHECK(take(&ledger, &four) == 15);
+    first_slots(&ledger, 48);
+    six.clocks.first = 47;
+    six.clocks.count = 2;
+    CHECK(take(&ledger, &six) == 0);
+    six.clocks.count = 3;
+    CHECK(take(&ledger, &six) == 15);
+    first_slots(&ledger, 0);
+    for (uint16_t sub = 0; sub < 32; sub++) {
+        four.clocks.first = sub;
+        CHECK(take(&ledger, &four) == 15);
+    }
+    for (unsigned prn = 0; prn < 256; prn++) {
+        bool among_ten = (prn >= 1 && prn <= 5) || (prn >= 59 && prn <= 63);
+        CHECK(ref_open(&ledger, prn) == (among_ten ? 0 : 4));
+    }
+}
+
+/* The five frames of the whole list, and the issues it is asked with. */
+static void whole_list_frames(uint8_t frame[5][FRAME_BYTES], uint16_t issues[SLOTS])
+{
+    struct contents one = { .kind = 1 }, two = { .kind = 2 }, four = { .kind = 4 };
+
+    one.mask.epoch = 3600;
+    one.mask.iod_ssr = 1;
+    one.mask.iodp = 5;
+    one.mask.set[3] = one.mask.set[19] = one.mask.set[64] = one.mask.set[101] = true;
+    two.orbits.epoch = 3606;
+    two.orbits.iod_ssr = 1;
+    two.orbits.record[0] = (struct orbit_record){ 19, 37, 2, 100, -50, 20, ref_ura(19) };
+    two.orbits.record[1] = (struct orbit_record){ 64, 88, 4, -1, 0, 4095, ref_ura(63) };
+    four.clocks.epoch = 3612;
+    four.clocks.iod_ssr = 1;
+    four.clocks.iodp = 5;
+    four.clocks.record[0] = (struct clock_record){ 0, 1, 7 };
+    four.clocks.record[1] = (struct clock_record){ 0, 2, -150 };
+    four.clocks.record[2] = (struct clock_record){ 0, 4, -16384 };
+    frame_of(&one, frame[0]);
+    frame_of(&two, frame[1]);
+    frame_of(&four, frame[2]);
+    one.mask.iodp = 6;
+    one.mask.set[5] = true;
+    frame_of(&one, frame[3]);
+    memcpy(frame[4], frame[2], FRAME_BYTES);
+    for (int i = 0; i < SLOTS; i++)
+        issues[i] = NO_ISSUE;
+    issues[19 - 1] = 37;
+    issues[64 - 1] = 88;
+}
+
+static void whole_list(void)
+{
+    uint8_t frame[5][FRAME_BYTES];
+    uint16_t issues[SLOTS + 1];
+    struct ledger ledger;
+    struct row row, rows[ASSIGNED_SLOTS];
+    size_t count;
+
+    whole_list_frames(frame, issues);
+    CHECK(ref_open(&ledger, 60) == 0);
+    for (int i = 0; i < 3; i++)
+        CHECK(ref_take(&ledger, frame[i], FRAME_BYTES) == 0);
+    CHECK(ref_count(&ledger, issues, SLOTS, &count) == 0 && count == 1);
+    CHECK(ref_rows(&ledger, issues, SLOTS, rows, &count) == 0 && count == 1);
+    CHECK(rows[0].slot == 19);
+    for (int way = 0; way < 2; way++) {
+        memset(&row, 0, sizeof row);
+        if (way == 0)
+            CHECK(ref_row_at(&ledger, issues, SLOTS, 1, &row) == 0);
+        else
+            CHECK(ref_row_of(&ledger, issues, SLOTS, 19, &row) == 0);
+        CHECK(row.slot == 19 && row.system == 1 && row.number == 19);
+        CHECK(row.iodn == 37 && row.iod_corr == 2);
+        CHECK(row.radial == 1600 && row.along == -3200 && row.cross == 1280 && row.clock == -2400);
+        CHECK(row.ura.kind == URA_QUARTERS && row.ura.quarters == 59);
+    }
+    CHECK(ref_row_at(&ledger, issues, SLOTS, 0, &row) == 18);
+    CHECK(ref_row_at(&ledger, issues, SLOTS, 2, &row) == 18);
+    CHECK(ref_row_of(&ledger, issues, SLOTS, 64, &row) == 18);
+    CHECK(ref_row_of(&ledger, issues, SLOTS, 255, &row) == 18);
+    CHECK(ref_row_of(&ledger, issues, SLOTS, 0, &row) == 11);
+    CHECK(ref_row_of(&ledger, issues, SLOTS, 256, &row) == 11);
+    CHECK(ref_row_of(&ledger, issues, SLOTS - 1, 256, &row) == 1);
+    CHECK(ref_row_at(&ledger, issues, SLOTS + 1, 0, &row) == 1);
+    CHECK(ref_count(&ledger, issues, 0, &count) == 1);
+    issues[200] = 1024;
+    CHECK(ref_row_of(&ledger, issues, SLOTS, 256, &row) == 11);
+    CHECK(ref_row_of(&ledger, issues, SLOTS, 19, &row) == 17);
+    CHECK(ref_row_at(&ledger, issues, SLOTS, 1, &row) == 17);
+    CHECK(ref_count(&ledger, issues, SLOTS, &count) == 17);
+    issues[200] = NO_ISSUE;
+
+    CHECK(ref_take(&ledger, frame[3], FRAME_BYTES) == 0);
+    CHECK(ref_count(&ledger, issues, SLOTS, &count) == 0 && count == 0);
+    CHECK(ref_take(&ledger, frame[4], FRAME_BYTES) == 14);
+    CHECK(ref_take(&ledger, frame[0], FRAME_BYTES) == 0);
+    CHECK(ref_count(&ledger, issues, SLOTS, &count) == 0 && count == 0);
+    CHECK(ref_take(&ledger, frame[4], FRAME_BYTES) == 0);
+    CHECK(ref_count(&ledger, issues, SLOTS, &count) == 0 && count == 1);
+}
+
+/* The same through the library, held against the row's bytes as they are to be. */
+static void whole_list_of_library(void)
+{
+    static const uint8_t wanted[QVD_ROW_BYTES] = { 19,   1,    19,   0,    37,   2,    0,    0,    0x06,
+                                                   0x40, 0xFF, 0xFF, 0xF3, 0x80, 0,    0,    0x05, 0,
+                                                   0xFF, 0xFF, 0xF6, 0xA0, 1,    0,    0,    0,    59 };
+    static uint8_t ledger[QVD_LEDGER_BYTES], rows[QVD_ROWS_BYTES], none[QVD_ROWS_BYTES];
+    uint8_t frame[5][FRAME_BYTES], row[QVD_ROW_BYTES], verdicts[5];
+    uint16_t issues[SLOTS];
+
+    whole_list_frames(frame, issues);
+    CHECK(qvd_open(ledger, sizeof ledger, 60) == 0);
+    for (int i = 0; i < 3; i++)
+        CHECK(qvd_take(ledger, sizeof ledger, frame[i], FRAME_BYTES) == 0);
+    CHECK(qvd_rows(ledger, sizeof ledger, issues, SLOTS, rows, sizeof rows) == 0);
+    CHECK(memcmp(rows, wanted, sizeof wanted) == 0);
+    CHECK(memcmp(rows + sizeof wanted, none, sizeof rows - sizeof wanted) == 0);
+    CHECK(qvd_row(ledger, sizeof ledger, issues, SLOTS, 19, row, sizeof row) == 0);
+    CHECK(memcmp(row, wanted, sizeof wanted) == 0);
+    CHECK(qvd_row(ledger, sizeof ledger, issues, SLOTS, 64, row, sizeof row) == 18);
+    CHECK(qvd_take(ledger, sizeof ledger, frame[3], FRAME_BYTES) == 0);
+    CHECK(qvd_take(ledger, sizeof ledger, frame[4], FRAME_BYTES) == 14);
+    CHECK(qvd_rows(ledger, sizeof ledger, issues, SLOTS, rows, sizeof rows) == 0);
+    CHECK(memcmp(rows, none, sizeof rows) == 0);
+    CHECK(qvd_replay(ledger, sizeof ledger, 60, frame[0], sizeof frame, verdicts, 5) == 0);
+    CHECK(memcmp(verdicts, "\0\0\0\0\16", 5) == 0);
+}
+
+int main(void)
+{
+    field();
+    parity();
+    check_bits();
+    ends();
+    uras();
+    epochs();
+    places();
+    whole_list();
+    whole_list_of_library();
+    printf("examples: %d checked, %d failed\n", checked, failed);
+    return failed != 0;
+}

@@ -1,0 +1,121 @@
+/* See forms.h. */
+#include "forms.h"
+
+#include <string.h>
+
+static uint8_t *put(uint8_t *at, int size, uint32_t value)
+{
+    for (int i = 0; i < size; i++)
+        at[i] = (uint8_t)(value >> 8 * (size - 1 - i));
+    return at + size;
+}
+
+static uint32_t get(const uint8_t **at, int size)
+{
+    uint32_t value = 0;
+    for (int i = 0; i < size; i++)
+        value = value << 8 | (*at)[i];
+    *at += size;
+    return value;
+}
+
+static int16_t get_signed(const uint8_t **at)
+{
+    int32_t value = (int32_t)get(at, 2);
+    return (int16_t)(value < 32768 ? value : value - 65536);
+}
+
+void row_to_bytes(const struct row *row, uint8_t bytes[ROW_FORM_BYTES])
+{
+    uint8_t *at = bytes;
+    at = put(at, 1, row->slot);
+    at = put(at, 1, row->system);
+    at = put(at, 1, row->number);
+    at = put(at, 2, row->iodn);
+    at = put(at, 1, row->iod_corr);
+    at = put(at, 4, (uint32_t)row->radial);
+    at = put(at, 4, (uint32_t)row->along);
+    at = put(at, 4, (uint32_t)row->cross);
+    at = put(at, 4, (uint32_t)row->clock);
+    at = put(at, 1, row->ura.kind);
+    put(at, 4, row->ura.quarters);
+}
+
+void contents_to_bytes(const struct contents *c, uint8_t bytes[CONTENTS_FORM_BYTES])
+{
+    uint8_t *at = bytes;
+
+    at = put(at, 1, c->kind);
+    at = put(at, 4, c->mask.epoch);
+    at = put(at, 1, c->mask.iod_ssr);
+    at = put(at, 1, c->mask.iodp);
+    for (int slot = 1; slot <= SLOTS; slot++)
+        at = put(at, 1, c->mask.set[slot]);
+
+    at = put(at, 4, c->clocks.epoch);
+    at = put(at, 1, c->clocks.iod_ssr);
+    at = put(at, 1, c->clocks.iodp);
+    at = put(at, 2, c->clocks.first);
+    at = put(at, 1, c->clocks.count);
+    for (int i = 0; i < CLOCKS; i++) {
+        const struct clock_record *r = &c->clocks.record[i];
+        at = put(at, 2, r->slot);
+        at = put(at, 1, r->iod_corr);
+        at = put(at, 2, (uint32_t)r->c0);
+    }
+
+    at = put(at, 4, c->orbits.epoch);
+    at = put(at, 1, c->orbits.iod_ssr);
+    at = put(at, 1, c->orbits.count);
+    for (int i = 0; i < ORBITS; i++) {
+        const struct orbit_record *r = &c->orbits.record[i];
+        at = put(at, 2, r->slot);
+        at = put(at, 2, r->iodn);
+        at = put(at, 1, r->iod_corr);
+        at = put(at, 2, (uint32_t)r->radial);
+        at = put(at, 2, (uint32_t)r->along);
+        at = put(at, 2, (uint32_t)r->cross);
+        at = put(at, 1, r->ura.kind);
+        at = put(at, 4, r->ura.quarters);
+    }
+}
+
+void contents_from_bytes(const uint8_t bytes[CONTENTS_FORM_BYTES], struct contents *c)
+{
+    const uint8_t *at = bytes;
+
+    memset(c, 0, sizeof *c);
+    c->kind = (uint8_t)get(&at, 1);
+    c->mask.epoch = get(&at, 4);
+    c->mask.iod_ssr = (uint8_t)get(&at, 1);
+    c->mask.iodp = (uint8_t)get(&at, 1);
+    for (int slot = 1; slot <= SLOTS; slot++)
+        c->mask.set[slot] = get(&at, 1) == 1;
+
+    c->clocks.epoch = get(&at, 4);
+    c->clocks.iod_ssr = (uint8_t)get(&at, 1);
+    c->clocks.iodp = (uint8_t)get(&at, 1);
+    c->clocks.first = (uint16_t)get(&at, 2);
+    c->clocks.count = (uint8_t)get(&at, 1);
+    for (int i = 0; i < CLOCKS; i++) {
+        struct clock_record *r = &c->clocks.record[i];
+        r->slot = (uint16_t)get(&at, 2);
+        r->iod_corr = (uint8_t)get(&at, 1);
+        r->c0 = get_signed(&at);
+    }
+
+    c->orbits.epoch = get(&at, 4);
+    c->orbits.iod_ssr = (uint8_t)get(&at, 1);
+    c->orbits.count = (uint8_t)get(&at, 1);
+    for (int i = 0; i < ORBITS; i++) {
+        struct orbit_record *r = &c->orbits.record[i];
+        r->slot = (uint16_t)get(&at, 2);
+        r->iodn = (uint16_t)get(&at, 2);
+        r->iod_corr = (uint8_t)get(&at, 1);
+        r->radial = get_signed(&at);
+        r->along = get_signed(&at);
+        r->cross = get_signed(&at);
+        r->ura.kind = (uint8_t)get(&at, 1);
+        r->ura.quarters = get(&at, 4);
+    }
+}

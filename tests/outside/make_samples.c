@@ -1,0 +1,394 @@
+/* make_samples FOLDER
+ *
+ * Writes night.log, issues.txt and night.messages: eight minutes of one
+ * night's frames from PRN 60, a frame a second, as a receiver may have stored
+ * them. A second mask comes in the middle; some seconds are damaged, some are
+ * another satellite's, one says that the service is withdrawn, and the log
+ * breaks off inside a frame. Always the same bytes. */
+#include "ref.h"
+
+#include <stdio.h>
+#include <stdlib.h>
+#include <string.h>
+
+enum {
+    PRN = 60,
+    OTHER_PRN = 59,
+    SECONDS = 480,
+    NEW_MASK_AT = 240,  /* the second mask comes into force */
+    START = 72000,      /* second of the day of the first frame */
+    SSR = 1,
+    MOST = 80           /* more satellites than either mask has */
+};
+
+/* A fixed scatter of two numbers into 0 to range - 1. */
+static unsigned scatter(unsigned a, unsigned b, unsigned range)
+{
+    uint32_t z = a * 0x9E3779B1u ^ b * 0x85EBCA77u ^ 0xC2B2AE3Du;
+    z = (z ^ z >> 15) * 0x2C1B3C6Du;
+    z = (z ^ z >> 12) * 0x297A2D39u;
+    return (z ^ z >> 15) % range;
+}
+
+/* A value that wanders slowly about a middle of its own. */
+static int16_t wander(unsigned slot, unsigned what, unsigned second, int spread)
+{
+    int middle = (int)scatter(slot, what, (unsigned)(2 * spread)) - spread;
+    int slope = (int)scatter(slot, what + 50, 9) - 4;
+    int noise = (int)scatter(slot * 1000 + what, second, 7) - 3;
+    return (int16_t)(middle + slope * (int)second / 60 + noise);
+}
+
+static unsigned iodn_of(unsigned slot) { return slot <= 63 ? 10 + scatter(slot, 1, 60) : scatter(slot, 2, 256); }
+
+/* The corrections of a satellite are renewed every 96 seconds, not all at once. */
+static unsigned corr_of(unsigned slot, unsigned second) { return (scatter(slot, 3, 8) + (second + scatter(slot, 4, 96)) / 96) % 8; }
+
+static void mask_at(unsigned second, struct mask *mask)
+{
+    memset(mask, 0, sizeof *mask);
+    mask->iod_ssr = SSR;
+    mask->iodp = second < NEW_MASK_AT ? 5 : 6;
+    for (int c = 19; c <= 46; c++)
+        mask->set[c] = c != 31;
+    for (int g = 1; g <= 32; g++)
+        mask->set[63 + g] = g != 4 && g != 23;
+    if (second >= NEW_MASK_AT) {
+        mask->set[20] = false;
+        mask->set[100 + 5] = mask->set[100 + 11] = true; /* Galileo 5 and 11 */
+        mask->set[137 + 7] = true;                       /* GLONASS 7 */
+    }
+}
+
+static unsigned slots_at(unsigned second, uint8_t slots[MOST])
+{
+    struct mask mask;
+    unsigned n = 0;
+    mask_at(second, &mask);
+    for (unsigned slot = 1; slot <= ASSIGNED_SLOTS; slot++)
+        if (mask.set[slot])
+            slots[n++] = (uint8_t)slot;
+    return n;
+}
+
+static struct orbit_record orbit_of(unsigned slot, unsigned second)
+{
+    struct orbit_record o;
+    o.slot = (uint16_t)slot;
+    o.iodn = (uint16_t)iodn_of(slot);
+    o.iod_corr = (uint8_t)corr_of(slot, second);
+    o.radial = wander(slot, 10, second, 150);
+    o.along = wander(slot, 11, second, 120);
+    o.cross = wander(slot, 12, second, 120);
+    o.ura = ref_ura(slot == 38 ? 63 : slot == 70 ? 0 : 8 + scatter(slot, 5, 14));
+    if (slot == 77)
+        o.along = -4096; /* unusable */
+    return o;
+}
+
+static struct clock_record clock_of(unsigned slot, unsigned second)
+{
+    struct clock_record c;
+    c.slot = 0;
+    c.iod_corr = (uint8_t)corr_of(slot, second);
+    c.c0 = slot == 33 && second > 100 ? -16384 : wander(slot, 13, second, 1200);
+    return c;
+}
+
+static void type_1(struct contents *c, unsigned second)
+{
+    c->kind = 1;
+    mask_at(second, &c->mask);
+    c->mask.epoch = START + second;
+}
+
+static unsigned next_orbit; /* the satellite whose orbit is sent next */
+
+static void six_orbits(struct contents *c, unsigned second, unsigned count)
+{
+    uint8_t slots[MOST];
+    unsigned n = slots_at(second, slots);
+    c->orbits.epoch = START + second / 48 * 48;
+    c->orbits.iod_ssr = SSR;
+    c->orbits.count = (uint8_t)count;
+    for (unsigned i = 0; i < count; i++, next_orbit++) {
+        if (next_orbit >= n) {
+            /* the round is complete: the rest of the records stay blank */
+            next_orbit = 0;
+            return;
+        }
+        c->orbits.record[i] = orbit_of(slots[next_orbit], second);
+    }
+}
+
+static void type_4(struct contents *c, unsigned second, unsigned sub)
+{
+    uint8_t slots[MOST];
+    unsigned n = slots_at(second, slots);
+    struct mask mask;
+    mask_at(second, &mask);
+    c->kind = 4;
+    c->clocks.epoch = START + second / 6 * 6;
+    c->clocks.iod_ssr = SSR;
+    c->clocks.iodp = mask.iodp;
+    c->clocks.first = (uint16_t)sub;
+    c->clocks.count = CLOCKS;
+    for (unsigned i = 0; i < CLOCKS && 23 * sub + i < n; i++)
+        c->clocks.record[i] = clock_of(slots[23 * sub + i], second);
+}
+
+static void type_6(struct contents *c, unsigned second, unsigned first, unsigned num_c, unsigned num_o)
+{
+    uint8_t slots[MOST];
+    unsigned n = slots_at(second, slots);
+    struct mask mask;
+    mask_at(second, &mask);
+    c->kind = 6;
+    if (num_c > 0) {
+        c->clocks.epoch = START + second / 6 * 6;
+        c->clocks.iod_ssr = SSR;
+        c->clocks.iodp = mask.iodp;
+        c->clocks.first = (uint16_t)first;
+        c->clocks.count = (uint8_t)num_c;
+        for (unsigned i = 0; i < num_c && first + i <= n; i++)
+            c->clocks.record[i] = clock_of(slots[first + i - 1], second);
+    }
+    if (num_o > 0)
+        six_orbits(c, second, num_o);
+}
+
+static void type_7(struct contents *c, unsigned second, unsigned num_c, unsigned num_o)
+{
+    uint8_t slots[MOST];
+    unsigned n = slots_at(second, slots);
+    c->kind = 7;
+    if (num_c > 0) {
+        c->clocks.epoch = START + second / 6 * 6;
+        c->clocks.iod_ssr = SSR;
+        c->clocks.count = (uint8_t)num_c;
+        for (unsigned i = 0; i < num_c; i++) {
+            unsigned slot = slots[(second / 6 * 5 + i * 7) % n];
+            bool used = false;
+            for (unsigned k = 0; k < i; k++)
+                used = used || c->clocks.record[k].slot == slot;
+            if (used)
+                continue; /* stays blank */
+            c->clocks.record[i] = clock_of(slot, second);
+            c->clocks.record[i].slot = (uint16_t)slot;
+        }
+    }
+    if (num_o > 0)
+        six_orbits(c, second, num_o);
+}
+
+static void write_or_stop(const struct contents *c, uint8_t message[MESSAGE_BYTES])
+{
+    unsigned refusal = ref_write(c, message, MESSAGE_BYTES);
+    if (refusal != 0) {
+        fprintf(stderr, "make_samples: a message was refused %u\n", refusal);
+        exit(1);
+    }
+}
+
+/* What the satellite sends in a second. */
+static void sent(unsigned second, uint8_t message[MESSAGE_BYTES])
+{
+    struct contents c = { 0 };
+    unsigned told = second;
+
+    /* The clocks speak of the second mask shortly before it is sent, and once
+     * more of the first one after. */
+    if (second >= NEW_MASK_AT - 4 && second < NEW_MASK_AT)
+        told = NEW_MASK_AT;
+    if (second == NEW_MASK_AT + 2)
+        told = NEW_MASK_AT - 1;
+
+    if (second % 48 == 0) {
+        type_1(&c, second);
+    } else if (second % 6 >= 1 && second % 6 <= 3) {
+        type_4(&c, told, second == 351 ? 3 : second % 6 - 1);
+    } else if (second % 6 == 5) {
+        switch (second / 6 % 8) {
+        case 0: type_6(&c, told, 1, 20, 0); break;
+        case 1: type_7(&c, told, 2, 5); break;
+        case 2: type_6(&c, told, 30, 6, 4); break;
+        case 3: type_7(&c, told, 15, 0); break;
+        case 4: type_6(&c, told, second == 413 ? 58 : 52, 4, 4); break;
+        case 5: type_7(&c, told, 0, 6); break;
+        default: c.kind = 63; break;
+        }
+    } else {
+        c.kind = 2;
+        six_orbits(&c, second, ORBITS);
+    }
+    write_or_stop(&c, message);
+    /* Every 48 seconds a code bias message, type 3, of which only the type is
+     * made here. */
+    if (second % 48 == 41) {
+        memset(message, 0, MESSAGE_BYTES);
+        ref_put_bits(message, 0, 6, 3);
+        ref_put_bits(message, 6, 17, START + second);
+        ref_put_bits(message, CHECKED_BITS, 24, ref_check(message));
+    }
+}
+
+static void flip(uint8_t *bytes, unsigned bit) { bytes[bit / 8] ^= (uint8_t)(0x80 >> bit % 8); }
+
+/* What the receiver stored of it. */
+static void received(unsigned second, const uint8_t message[MESSAGE_BYTES], uint8_t frame[FRAME_BYTES])
+{
+    uint8_t changed[MESSAGE_BYTES];
+
+    memcpy(changed, message, MESSAGE_BYTES);
+    if (second == 365)
+        flip(changed, 100); /* a wrong check under right parity */
+    ref_encode(changed, second >= 210 && second < 216 ? OTHER_PRN : PRN, second == 301 ? 0x20 : 0, frame);
+    if (second >= 130 && second < 139) /* a burst of noise */
+        for (unsigned i = 0; i < 1 + scatter(second, 6, 12); i++)
+            flip(frame, 28 + scatter(second, 20 + i, 972));
+    if (second == 75 || second == 402) /* single wrong symbols */
+        flip(frame, 28 + scatter(second, 7, 972));
+    if (second == 187 || second == 188) /* lock lost */
+        for (unsigned i = 0; i < FRAME_BYTES; i++)
+            frame[i] = (uint8_t)scatter(second, 100 + i, 256);
+}
+
+static FILE *create(const char *folder, const char *name)
+{
+    char path[4096];
+    FILE *out;
+    snprintf(path, sizeof path, "%s/%s", folder, name);
+    out = fopen(path, "wb");
+    if (out == NULL) {
+        fprintf(stderr, "make_samples: %s: cannot be written\n", path);
+        exit(1);
+    }
+    return out;
+}
+
+static void finish(FILE *out)
+{
+    if (fclose(out) != 0) {
+        fprintf(stderr, "make_samples: a file could not be written\n");
+        exit(1);
+    }
+}
+
+static void make_log(const char *folder)
+{
+    FILE *out = create(folder, "night.log");
+    uint8_t message[MESSAGE_BYTES], frame[FRAME_BYTES];
+    next_orbit = 0;
+    for (unsigned second = 0; second <= SECONDS; second++) {
+        sent(second, message);
+        received(second, message, frame);
+        fwrite(frame, 1, second < SECONDS ? FRAME_BYTES : 57, out);
+    }
+    finish(out);
+}
+
+static void put_message(FILE *out, const struct contents *c)
+{
+    uint8_t message[MESSAGE_BYTES];
+    write_or_stop(c, message);
+    fwrite(message, 1, MESSAGE_BYTES, out);
+}
+
+static void make_messages(const char *folder)
+{
+    FILE *out = create(folder, "night.messages");
+    uint8_t message[MESSAGE_BYTES];
+    struct contents c;
+
+    /* The messages of the first 48 seconds and of as many after the second
+     * mask, save those that cannot be read. */
+    next_orbit = 0;
+    for (unsigned second = 0; second < NEW_MASK_AT + 48; second++) {
+        sent(second, message);
+        if ((second < 48 || second >= NEW_MASK_AT) && ref_read(message, MESSAGE_BYTES, &c) == 0)
+            fwrite(message, 1, MESSAGE_BYTES, out);
+    }
+    /* And the rarer forms: an empty mask, a full one, parts left out, blanks
+     * in the middle, the ends of each range. */
+    memset(&c, 0, sizeof c);
+    c.kind = 1;
+    put_message(out, &c);
+    c.mask.epoch = 86399;
+    c.mask.iod_ssr = 3;
+    c.mask.iodp = 15;
+    for (int slot = 1; slot <= ASSIGNED_SLOTS; slot++)
+        c.mask.set[slot] = true;
+    put_message(out, &c);
+    memset(&c, 0, sizeof c);
+    c.kind = 2;
+    put_message(out, &c);
+    c.orbits.epoch = 86399;
+    c.orbits.iod_ssr = 3;
+    c.orbits.record[1] = (struct orbit_record){ 255, 1023, 7, 16383, 4095, 4095, ref_ura(62) };
+    c.orbits.record[3] = (struct orbit_record){ 1, 0, 0, -16384, -4096, -4096, ref_ura(0) };
+    c.orbits.record[4] = (struct orbit_record){ 174, 1, 1, -16383, -4095, -4095, ref_ura(63) };
+    put_message(out, &c);
+    memset(&c, 0, sizeof c);
+    c.kind = 4;
+    c.clocks.first = 31;
+    c.clocks.record[0].c0 = -16384;
+    c.clocks.record[22] = (struct clock_record){ 0, 7, 16383 };
+    put_message(out, &c);
+    for (uint8_t kind = 6; kind <= 7; kind++) {
+        memset(&c, 0, sizeof c);
+        c.kind = kind;
+        put_message(out, &c);
+        c.clocks.count = kind == 6 ? 22 : 15;
+        c.clocks.first = 255;
+        put_message(out, &c);
+        c.clocks.count = 2;
+        c.clocks.record[1] = (struct clock_record){ 255, 7, -1 };
+        c.orbits.count = 5;
+        c.orbits.record[4] = (struct orbit_record){ 255, 512, 3, -1, 1, -1, ref_ura(1) };
+        put_message(out, &c);
+        c.clocks.count = 0;
+        c.orbits.count = 6;
+        put_message(out, &c);
+    }
+    memset(&c, 0, sizeof c);
+    c.kind = 63;
+    put_message(out, &c);
+    finish(out);
+}
+
+static void make_issues(const char *folder)
+{
+    FILE *out = create(folder, "issues.txt");
+    static const char letters[] = "?CGER";
+    uint8_t slots[MOST];
+    unsigned n = slots_at(SECONDS, slots);
+
+    fprintf(out, "# Issues of the broadcast messages, as received that night.\n");
+    fprintf(out, "# BeiDou: CNAV1 IODC. GPS: LNAV IODC. Galileo: I/NAV IODNav. GLONASS: L1OCd Tb.\n\n");
+    for (unsigned i = 0; i < n; i++) {
+        unsigned slot = slots[i];
+        unsigned system = slot <= 63 ? 1 : slot <= 100 ? 2 : slot <= 137 ? 3 : 4;
+        unsigned number = slot - (unsigned[]){ 0, 0, 63, 100, 137 }[system];
+        unsigned issue = iodn_of(slot);
+        if (slot == 25 || slot == 81 || slot == 90) /* not received */
+            continue;
+        if (slot == 41 || slot == 66) /* still the older one */
+            issue = (issue + 1023) % 1024;
+        if (slot == 64)
+            fprintf(out, "\n# GPS 18 and 27 were below the horizon.\n");
+        fprintf(out, "%c%02u %u\n", letters[system], number, issue);
+    }
+    finish(out);
+}
+
+int main(int argc, char **argv)
+{
+    if (argc != 2) {
+        fprintf(stderr, "usage: make_samples FOLDER\n");
+        return 2;
+    }
+    make_log(argv[1]);
+    make_messages(argv[1]);
+    make_issues(argv[1]);
+    return 0;
+}

@@ -1,0 +1,897 @@
+/* See ref.h. Straightforward C: symbols are multiplied by shift and add, the
+ * check is made bit by bit, fields are cut out of the bytes where they lie. */
+#include "ref.h"
+
+#include <stdlib.h>
+#include <string.h>
+
+/* The parity groups of section 6.1.3, in the order of print: down each printed
+ * column, columns left to right. */
+static const uint8_t position[GROUPS][4] = {
+    { 19, 67, 109, 130 }, { 26, 71, 104, 132 }, { 13, 42, 101, 146 },
+    { 23, 61, 113, 126 }, { 22, 60, 112, 128 }, { 3, 45, 84, 126 },
+    { 20, 77, 88, 158 }, { 0, 42, 81, 123 }, { 22, 75, 107, 143 },
+    { 17, 59, 95, 140 }, { 21, 77, 106, 142 }, { 10, 52, 91, 133 },
+    { 33, 73, 113, 156 }, { 8, 46, 105, 146 }, { 16, 63, 114, 124 },
+    { 36, 56, 121, 161 }, { 36, 78, 110, 148 }, { 25, 58, 117, 136 },
+    { 38, 55, 120, 160 }, { 28, 69, 86, 159 }, { 40, 67, 118, 152 },
+    { 27, 71, 85, 161 }, { 30, 39, 93, 154 }, { 18, 66, 108, 129 },
+    { 8, 50, 89, 131 }, { 0, 49, 115, 151 }, { 38, 80, 109, 147 },
+    { 37, 54, 122, 159 }, { 32, 79, 97, 120 }, { 24, 69, 102, 133 },
+    { 7, 45, 107, 145 }, { 16, 58, 94, 139 }, { 25, 70, 103, 134 },
+    { 28, 73, 101, 154 }, { 30, 80, 98, 121 }, { 13, 55, 90, 136 },
+    { 29, 74, 99, 155 }, { 19, 76, 87, 157 }, { 39, 66, 117, 151 },
+    { 7, 49, 88, 130 }, { 23, 76, 105, 141 }, { 37, 79, 108, 149 },
+    { 31, 78, 96, 122 }, { 4, 46, 85, 127 }, { 27, 72, 100, 153 },
+    { 34, 74, 111, 157 }, { 6, 47, 106, 144 }, { 9, 60, 96, 141 },
+    { 3, 65, 104, 149 }, { 35, 72, 112, 158 }, { 1, 50, 116, 152 },
+    { 34, 51, 83, 138 }, { 20, 68, 110, 131 }, { 32, 41, 95, 153 },
+    { 4, 63, 102, 147 }, { 41, 68, 119, 150 }, { 31, 40, 94, 155 },
+    { 5, 64, 103, 148 }, { 15, 65, 116, 123 }, { 11, 62, 98, 143 },
+    { 17, 64, 115, 125 }, { 12, 54, 92, 135 }, { 26, 59, 118, 137 },
+    { 2, 44, 83, 125 }, { 21, 62, 111, 127 }, { 29, 70, 84, 160 },
+    { 12, 44, 100, 145 }, { 33, 53, 82, 140 }, { 1, 43, 82, 124 },
+    { 5, 47, 86, 128 }, { 15, 57, 93, 138 }, { 24, 57, 119, 135 },
+    { 14, 43, 99, 144 }, { 2, 48, 114, 150 }, { 14, 56, 91, 137 },
+    { 6, 48, 87, 129 }, { 35, 52, 81, 139 }, { 10, 61, 97, 142 },
+    { 18, 75, 89, 156 }, { 11, 53, 92, 134 }, { 9, 51, 90, 132 },
+};
+
+static const uint8_t factor[GROUPS][4] = {
+    { 46, 45, 44, 15 }, { 58, 56, 60, 62 }, { 54, 7, 38, 23 },
+    { 26, 22, 14, 2 }, { 35, 1, 31, 44 }, { 16, 63, 20, 9 },
+    { 42, 47, 37, 32 }, { 63, 13, 54, 10 }, { 1, 21, 25, 7 },
+    { 41, 48, 2, 27 }, { 46, 25, 22, 48 }, { 60, 24, 4, 50 },
+    { 25, 11, 7, 1 }, { 13, 27, 56, 8 }, { 60, 48, 2, 27 },
+    { 53, 35, 16, 13 }, { 20, 16, 63, 9 }, { 43, 47, 18, 20 },
+    { 9, 41, 57, 58 }, { 37, 53, 61, 29 }, { 19, 24, 42, 14 },
+    { 15, 24, 50, 37 }, { 37, 53, 61, 29 }, { 51, 59, 63, 47 },
+    { 63, 26, 41, 12 }, { 44, 51, 35, 13 }, { 27, 56, 8, 43 },
+    { 38, 12, 25, 51 }, { 2, 46, 56, 35 }, { 43, 58, 19, 49 },
+    { 49, 21, 7, 35 }, { 13, 29, 53, 61 }, { 32, 49, 58, 19 },
+    { 32, 49, 58, 19 }, { 53, 40, 61, 18 }, { 50, 54, 60, 62 },
+    { 23, 25, 30, 16 }, { 27, 37, 5, 26 }, { 42, 14, 24, 33 },
+    { 5, 31, 51, 30 }, { 6, 45, 56, 19 }, { 1, 45, 15, 6 },
+    { 24, 50, 37, 15 }, { 46, 58, 18, 6 }, { 9, 3, 43, 29 },
+    { 17, 32, 58, 37 }, { 30, 1, 44, 7 }, { 1, 44, 30, 24 },
+    { 43, 34, 48, 57 }, { 47, 20, 33, 26 }, { 28, 4, 52, 44 },
+    { 40, 21, 44, 17 }, { 52, 17, 24, 61 }, { 43, 34, 48, 57 },
+    { 42, 14, 24, 33 }, { 8, 43, 27, 56 }, { 58, 19, 32, 49 },
+    { 18, 6, 61, 21 }, { 29, 7, 10, 16 }, { 43, 22, 41, 20 },
+    { 9, 3, 63, 43 }, { 33, 45, 36, 34 }, { 8, 43, 27, 56 },
+    { 15, 32, 18, 61 }, { 36, 19, 3, 57 }, { 56, 8, 46, 13 },
+    { 38, 23, 55, 22 }, { 27, 5, 2, 62 }, { 5, 26, 27, 37 },
+    { 39, 9, 30, 48 }, { 62, 54, 56, 60 }, { 46, 44, 14, 15 },
+    { 24, 23, 45, 11 }, { 29, 41, 10, 16 }, { 29, 7, 10, 16 },
+    { 39, 56, 30, 48 }, { 18, 40, 32, 61 }, { 9, 3, 63, 43 },
+    { 15, 1, 42, 45 }, { 11, 60, 6, 49 }, { 22, 15, 12, 33 },
+};
+
+enum { FRAME_HEAD_BITS = 28, CODED_BIT = FRAME_HEAD_BITS, SYNC = 0xEB90, LAST_EPOCH = 86399 };
+
+/* ---- bits ---- */
+
+uint32_t ref_get_bits(const uint8_t *bytes, size_t at, unsigned width)
+{
+    size_t last = at + width - 1;
+    uint64_t window = 0;
+    for (size_t i = at / 8; i <= last / 8; i++)
+        window = window << 8 | bytes[i];
+    return (uint32_t)(window >> (7 - last % 8) & ((UINT64_C(1) << width) - 1));
+}
+
+void ref_put_bits(uint8_t *bytes, size_t at, unsigned width, uint32_t value)
+{
+    for (unsigned i = 0; i < width; i++) {
+        size_t bit = at + i;
+        uint8_t one = (uint8_t)(0x80 >> bit % 8);
+        if (value >> (width - 1 - i) & 1)
+            bytes[bit / 8] |= one;
+        else
+            bytes[bit / 8] &= (uint8_t)~one;
+    }
+}
+
+/* A place in a message, from which fields are read one after another. */
+struct reader {
+    const uint8_t *bytes;
+    size_t at;
+};
+
+static uint32_t next(struct reader *r, unsigned width)
+{
+    uint32_t value = ref_get_bits(r->bytes, r->at, width);
+    r->at += width;
+    return value;
+}
+
+static int16_t next_signed(struct reader *r, unsigned width)
+{
+    int32_t value = (int32_t)next(r, width);
+    if (value >= 1 << (width - 1))
+        value -= 1 << width;
+    return (int16_t)value;
+}
+
+/* A place in a message, at which fields are written one after another. */
+struct writer {
+    uint8_t *bytes;
+    size_t at;
+};
+
+static void put(struct writer *w, unsigned width, uint32_t value)
+{
+    ref_put_bits(w->bytes, w->at, width, value);
+    w->at += width;
+}
+
+static void put_signed(struct writer *w, unsigned width, int32_t value)
+{
+    put(w, width, (uint32_t)value & ((UINT32_C(1) << width) - 1));
+}
+
+/* ---- field of 64, parity, check ---- */
+
+uint8_t ref_times(uint8_t a, uint8_t b)
+{
+    unsigned shifted = a, product = 0;
+    for (unsigned rest = b; rest != 0; rest >>= 1) {
+        if (rest & 1)
+            product ^= shifted;
+        shifted <<= 1;
+        if (shifted & 64)
+            shifted ^= 64 | 2 | 1; /* x^6 = x + 1 */
+    }
+    return (uint8_t)product;
+}
+
+bool ref_parity(const uint8_t symbol[SYMBOLS])
+{
+    for (int g = 0; g < GROUPS; g++) {
+        uint8_t sum = 0;
+        for (int k = 0; k < 4; k++)
+            sum ^= ref_times(factor[g][k], symbol[position[g][k]]);
+        if (sum != 0)
+            return false;
+    }
+    return true;
+}
+
+void ref_symbols(const uint8_t frame[FRAME_BYTES], uint8_t symbol[SYMBOLS])
+{
+    const uint8_t *from = frame + CODED_BIT / 8;
+    unsigned window = *from++, bits = 8 - CODED_BIT % 8; /* the low `bits` of the window are still to come */
+    for (int i = 0; i < SYMBOLS; i++) {
+        if (bits < 6) {
+            window = window << 8 | *from++;
+            bits += 8;
+        }
+        bits -= 6;
+        symbol[i] = (uint8_t)(window >> bits & 63);
+    }
+}
+
+uint32_t ref_check(const uint8_t message[MESSAGE_BYTES])
+{
+    /* x^24 + x^23 + x^18 + x^17 + x^14 + x^11 + x^10 + x^7 + x^6 + x^5 + x^4 + x^3 + x + 1 */
+    const uint32_t polynomial = 1u << 23 | 1u << 18 | 1u << 17 | 1u << 14 | 1u << 11 | 1u << 10 | 1u << 7 |
+                                1u << 6 | 1u << 5 | 1u << 4 | 1u << 3 | 1u << 1 | 1u << 0;
+    uint32_t reg = 0;
+    for (int i = 0; i < CHECKED_BITS; i++) {
+        uint32_t in = message[i / 8] >> (7 - i % 8) & 1u;
+        uint32_t out = reg >> 23 & 1u;
+        reg = reg << 1 & 0xFFFFFF;
+        if (in ^ out)
+            reg ^= polynomial;
+    }
+    return reg;
+}
+
+/* ---- URA ---- */
+
+struct ura ref_ura(unsigned code)
+{
+    struct ura ura = { URA_UNKNOWN, 0 };
+    if (code == 63) {
+        ura.kind = URA_ABOVE;
+    } else if (code != 0) {
+        uint32_t quarters = 4 + code % 8;
+        for (unsigned c = code / 8; c > 0; c--)
+            quarters *= 3;
+        ura.kind = URA_QUARTERS;
+        ura.quarters = quarters - 4;
+    }
+    return ura;
+}
+
+int ref_ura_code(struct ura ura)
+{
+    if (ura.kind == URA_UNKNOWN)
+        return 0;
+    if (ura.kind == URA_ABOVE)
+        return 63;
+    if (ura.kind == URA_QUARTERS)
+        for (unsigned code = 1; code < 63; code++)
+            if (ref_ura(code).quarters == ura.quarters)
+                return (int)code;
+    return -1;
+}
+
+/* ---- what can be wrong with contents, read or to be written ---- */
+
+static bool kind_known(unsigned kind)
+{
+    return kind == 1 || kind == 2 || kind == 4 || kind == 6 || kind == 7 || kind == 63;
+}
+
+unsigned ref_end(unsigned kind, unsigned num_c, unsigned num_o)
+{
+    unsigned end = 14;
+    if (num_c > 0)
+        end += kind == 6 ? 36 + 18 * num_c : 23 + 27 * num_c;
+    if (num_o > 0)
+        end += 23 + 69 * num_o;
+    return end;
+}
+
+static bool has_mask_part(const struct contents *c) { return c->kind == 1; }
+
+static unsigned clock_count(const struct contents *c)
+{
+    if (c->kind == 4)
+        return CLOCKS;
+    return c->kind == 6 || c->kind == 7 ? c->clocks.count : 0;
+}
+
+static unsigned orbit_count(const struct contents *c)
+{
+    if (c->kind == 2)
+        return ORBITS;
+    return c->kind == 6 || c->kind == 7 ? c->orbits.count : 0;
+}
+
+static bool epoch_wrong(const struct contents *c)
+{
+    return (has_mask_part(c) && c->mask.epoch > LAST_EPOCH) ||
+           (clock_count(c) > 0 && c->clocks.epoch > LAST_EPOCH) ||
+           (orbit_count(c) > 0 && c->orbits.epoch > LAST_EPOCH);
+}
+
+static bool slot_wrong(const struct contents *c)
+{
+    if (c->kind == 6 && clock_count(c) > 0 && (c->clocks.first == 0 || c->clocks.first > SLOTS))
+        return true;
+    if (c->kind == 7)
+        for (unsigned i = 0; i < clock_count(c); i++)
+            if (c->clocks.record[i].slot > SLOTS)
+                return true;
+    for (unsigned i = 0; i < orbit_count(c); i++)
+        if (c->orbits.record[i].slot > SLOTS)
+            return true;
+    return false;
+}
+
+static bool slot_twice(const struct contents *c)
+{
+    if (c->kind == 7)
+        for (unsigned i = 0; i < clock_count(c); i++)
+            for (unsigned j = 0; j < i; j++)
+                if (c->clocks.record[i].slot != 0 && c->clocks.record[i].slot == c->clocks.record[j].slot)
+                    return true;
+    for (unsigned i = 0; i < orbit_count(c); i++)
+        for (unsigned j = 0; j < i; j++)
+            if (c->orbits.record[i].slot != 0 && c->orbits.record[i].slot == c->orbits.record[j].slot)
+                return true;
+    return false;
+}
+
+static bool mask_reserved(const struct contents *c)
+{
+    if (has_mask_part(c))
+        for (int slot = ASSIGNED_SLOTS + 1; slot <= SLOTS; slot++)
+            if (c->mask.set[slot])
+                return true;
+    return false;
+}
+
+/* Refusals 10 to 13, for reading and writing alike. */
+static unsigned judge(const struct contents *c)
+{
+    if (epoch_wrong(c))
+        return 10;
+    if (slot_wrong(c))
+        return 11;
+    if (slot_twice(c))
+        return 12;
+    if (mask_reserved(c))
+        return 13;
+    return 0;
+}
+
+/* ---- reading ---- */
+
+static void read_orbits(struct reader *r, unsigned count, struct orbit_part *part)
+{
+    part->epoch = next(r, 17);
+    next(r, 4);
+    part->iod_ssr = (uint8_t)next(r, 2);
+    part->count = (uint8_t)count;
+    for (unsigned i = 0; i < count; i++) {
+        struct orbit_record *o = &part->record[i];
+        size_t start = r->at;
+        o->slot = (uint16_t)next(r, 9);
+        if (o->slot != 0) {
+            o->iodn = (uint16_t)next(r, 10);
+            o->iod_corr = (uint8_t)next(r, 3);
+            o->radial = next_signed(r, 15);
+            o->along = next_signed(r, 13);
+            o->cross = next_signed(r, 13);
+            o->ura = ref_ura(next(r, 6));
+        }
+        r->at = start + 69;
+    }
+}
+
+static void read_clocks(struct reader *r, unsigned kind, unsigned count, struct clock_part *part)
+{
+    part->epoch = next(r, 17);
+    next(r, 4);
+    part->iod_ssr = (uint8_t)next(r, 2);
+    if (kind != 7) {
+        part->iodp = (uint8_t)next(r, 4);
+        part->first = (uint16_t)next(r, kind == 4 ? 5 : 9);
+    }
+    part->count = (uint8_t)count;
+    for (unsigned i = 0; i < count; i++) {
+        struct clock_record *c = &part->record[i];
+        bool blank = false;
+        if (kind == 7) {
+            c->slot = (uint16_t)next(r, 9);
+            blank = c->slot == 0;
+        }
+        if (blank) {
+            next(r, 18);
+        } else {
+            c->iod_corr = (uint8_t)next(r, 3);
+            c->c0 = next_signed(r, 15);
+        }
+    }
+}
+
+static void read_mask(struct reader *r, struct mask *mask)
+{
+    mask->epoch = next(r, 17);
+    next(r, 4);
+    mask->iod_ssr = (uint8_t)next(r, 2);
+    mask->iodp = (uint8_t)next(r, 4);
+    for (int slot = 1; slot <= SLOTS; slot++, r->at++)
+        mask->set[slot] = r->bytes[r->at / 8] >> (7 - r->at % 8) & 1;
+}
+
+/* Refusals 7 to 13, and what the message says where there are none. `out` is
+ * all zero when this begins. */
+static unsigned read_fields(const uint8_t message[MESSAGE_BYTES], struct contents *out)
+{
+    struct reader r = { message, 0 };
+    unsigned num_c, num_o;
+
+    if (ref_check(message) != ref_get_bits(message, CHECKED_BITS, 24))
+        return 7;
+    out->kind = (uint8_t)next(&r, 6);
+    if (!kind_known(out->kind))
+        return 8;
+    switch (out->kind) {
+    case 1:
+        read_mask(&r, &out->mask);
+        break;
+    case 2:
+        read_orbits(&r, ORBITS, &out->orbits);
+        break;
+    case 4:
+        read_clocks(&r, 4, CLOCKS, &out->clocks);
+        break;
+    case 6:
+    case 7:
+        num_c = next(&r, 5);
+        num_o = next(&r, 3);
+        if (ref_end(out->kind, num_c, num_o) > CHECKED_BITS)
+            return 9;
+        if (num_c > 0)
+            read_clocks(&r, out->kind, num_c, &out->clocks);
+        if (num_o > 0)
+            read_orbits(&r, num_o, &out->orbits);
+        break;
+    default:
+        break;
+    }
+    return judge(out);
+}
+
+static unsigned read_message(const uint8_t message[MESSAGE_BYTES], struct contents *out)
+{
+    unsigned refusal = read_fields(message, out);
+    if (refusal != 0)
+        memset(out, 0, sizeof *out);
+    return refusal;
+}
+
+unsigned ref_read(const uint8_t *message, size_t length, struct contents *out)
+{
+    memset(out, 0, sizeof *out);
+    if (length != MESSAGE_BYTES)
+        return 1;
+    if (message[MESSAGE_BYTES - 1] & 3)
+        return 2;
+    return read_message(message, out);
+}
+
+/* The message's 486 bits, cut out of a frame, with two zero bits after them. */
+static void cut_message(const uint8_t frame[FRAME_BYTES], uint8_t message[MESSAGE_BYTES])
+{
+    for (int i = 0; i < MESSAGE_BYTES; i++)
+        message[i] = (uint8_t)(frame[3 + i] << 4 | frame[4 + i] >> 4);
+    message[MESSAGE_BYTES - 1] &= 0xFC;
+}
+
+unsigned ref_frame_prn(const uint8_t frame[FRAME_BYTES]) { return ref_get_bits(frame, 16, 6); }
+
+unsigned ref_frame_type(const uint8_t frame[FRAME_BYTES]) { return ref_get_bits(frame, CODED_BIT, 6); }
+
+/* A frame up to its contents. With a ledger `prn` is the ledger's; without one
+ * it is -1 and the frame's PRN is not looked at. `out` is all zero when this
+ * begins. */
+static unsigned read_frame(const uint8_t *frame, size_t length, int prn, struct contents *out)
+{
+    uint8_t symbol[SYMBOLS], message[MESSAGE_BYTES];
+
+    if (length != FRAME_BYTES)
+        return 1;
+    if (ref_get_bits(frame, 0, 16) != SYNC)
+        return 3;
+    if (prn >= 0 && ref_frame_prn(frame) != (unsigned)prn)
+        return 4;
+    if (ref_get_bits(frame, 22, 1) != 0)
+        return 5;
+    ref_symbols(frame, symbol);
+    if (!ref_parity(symbol))
+        return 6;
+    cut_message(frame, message);
+    return read_message(message, out);
+}
+
+unsigned ref_read_frame(const uint8_t *frame, size_t length, struct contents *out)
+{
+    memset(out, 0, sizeof *out);
+    return read_frame(frame, length, -1, out);
+}
+
+/* ---- writing ---- */
+
+static bool fits_signed(int32_t value, unsigned width)
+{
+    return value >= -(1 << (width - 1)) && value < 1 << (width - 1);
+}
+
+static bool orbit_fits(const struct orbit_record *o)
+{
+    return o->slot == 0 ||
+           (o->iodn <= 1023 && o->iod_corr <= 7 && fits_signed(o->radial, 15) && fits_signed(o->along, 13) &&
+            fits_signed(o->cross, 13) && ref_ura_code(o->ura) >= 0);
+}
+
+static bool clock_fits(const struct clock_record *c, unsigned kind)
+{
+    return (kind == 7 && c->slot == 0) || (c->iod_corr <= 7 && fits_signed(c->c0, 15));
+}
+
+/* Whether each field that refusals 8 to 13 do not speak of can be written. */
+static bool fields_fit(const struct contents *c)
+{
+    if (has_mask_part(c) && (c->mask.iod_ssr > 3 || c->mask.iodp > 15))
+        return false;
+    if (clock_count(c) > 0 && c->clocks.iod_ssr > 3)
+        return false;
+    if (clock_count(c) > 0 && c->kind != 7 && c->clocks.iodp > 15)
+        return false;
+    if (c->kind == 4 && c->clocks.first > 31)
+        return false;
+    for (unsigned i = 0; i < clock_count(c); i++)
+        if (!clock_fits(&c->clocks.record[i], c->kind))
+            return false;
+    if (orbit_count(c) > 0 && c->orbits.iod_ssr > 3)
+        return false;
+    for (unsigned i = 0; i < orbit_count(c); i++)
+        if (!orbit_fits(&c->orbits.record[i]))
+            return false;
+    return true;
+}
+
+static void write_orbits(struct writer *w, unsigned count, const struct orbit_part *part)
+{
+    put(w, 17, part->epoch);
+    put(w, 4, 0);
+    put(w, 2, part->iod_ssr);
+    for (unsigned i = 0; i < count; i++) {
+        const struct orbit_record *o = &part->record[i];
+        if (o->slot == 0) {
+            w->at += 69;
+            continue;
+        }
+        put(w, 9, o->slot);
+        put(w, 10, o->iodn);
+        put(w, 3, o->iod_corr);
+        put_signed(w, 15, o->radial);
+        put_signed(w, 13, o->along);
+        put_signed(w, 13, o->cross);
+        put(w, 6, (uint32_t)ref_ura_code(o->ura));
+    }
+}
+
+static void write_clocks(struct writer *w, unsigned kind, unsigned count, const struct clock_part *part)
+{
+    put(w, 17, part->epoch);
+    put(w, 4, 0);
+    put(w, 2, part->iod_ssr);
+    if (kind != 7) {
+        put(w, 4, part->iodp);
+        put(w, kind == 4 ? 5 : 9, part->first);
+    }
+    for (unsigned i = 0; i < count; i++) {
+        const struct clock_record *c = &part->record[i];
+        if (kind == 7) {
+            if (c->slot == 0) {
+                w->at += 27;
+                continue;
+            }
+            put(w, 9, c->slot);
+        }
+        put(w, 3, c->iod_corr);
+        put_signed(w, 15, c->c0);
+    }
+}
+
+static void write_mask(struct writer *w, const struct mask *mask)
+{
+    put(w, 17, mask->epoch);
+    put(w, 4, 0);
+    put(w, 2, mask->iod_ssr);
+    put(w, 4, mask->iodp);
+    for (int slot = 1; slot <= SLOTS; slot++)
+        put(w, 1, mask->set[slot]);
+}
+
+unsigned ref_write(const struct contents *in, uint8_t *room, size_t length)
+{
+    struct writer w = { room, 0 };
+    unsigned refusal;
+
+    if (length != MESSAGE_BYTES)
+        return 1;
+    if (!kind_known(in->kind))
+        return 8;
+    if ((in->kind == 6 || in->kind == 7) &&
+        ref_end(in->kind, clock_count(in), orbit_count(in)) > CHECKED_BITS)
+        return 9;
+    refusal = judge(in);
+    if (refusal != 0)
+        return refusal;
+    if (!fields_fit(in))
+        return 16;
+
+    memset(room, 0, MESSAGE_BYTES);
+    put(&w, 6, in->kind);
+    if (in->kind == 6 || in->kind == 7) {
+        put(&w, 5, clock_count(in));
+        put(&w, 3, orbit_count(in));
+    }
+    if (has_mask_part(in))
+        write_mask(&w, &in->mask);
+    if (clock_count(in) > 0)
+        write_clocks(&w, in->kind, clock_count(in), &in->clocks);
+    if (orbit_count(in) > 0)
+        write_orbits(&w, orbit_count(in), &in->orbits);
+    ref_put_bits(room, CHECKED_BITS, 24, ref_check(room));
+    return 0;
+}
+
+/* ---- the ledger ---- */
+
+unsigned ref_open(struct ledger *ledger, unsigned prn)
+{
+    if (!((prn >= 1 && prn <= 5) || (prn >= 59 && prn <= 63)))
+        return 4;
+    memset(ledger, 0, sizeof *ledger);
+    ledger->prn = (uint8_t)prn;
+    return 0;
+}
+
+static bool masks_differ(const struct mask *a, const struct mask *b)
+{
+    if (a->iod_ssr != b->iod_ssr || a->iodp != b->iodp)
+        return true;
+    for (int slot = 1; slot <= SLOTS; slot++)
+        if (a->set[slot] != b->set[slot])
+            return true;
+    return false;
+}
+
+static void take_mask(struct ledger *ledger, const struct mask *mask)
+{
+    /* Clocks in force that came by place were placed by the mask in force. */
+    if (!ledger->has_mask || masks_differ(&ledger->mask, mask))
+        for (int slot = 1; slot <= SLOTS; slot++)
+            if (ledger->clock[slot].by_place)
+                memset(&ledger->clock[slot], 0, sizeof ledger->clock[slot]);
+    ledger->has_mask = true;
+    ledger->mask = *mask;
+    ledger->places = 0;
+    for (int slot = 1; slot <= SLOTS; slot++)
+        if (mask->set[slot])
+            ledger->slot_at[++ledger->places] = (uint8_t)slot;
+}
+
+static void take_clock(struct ledger *ledger, unsigned slot, bool by_place, uint8_t iod_ssr,
+                       const struct clock_record *record)
+{
+    struct held_clock *held = &ledger->clock[slot];
+    held->held = true;
+    held->by_place = by_place;
+    held->iod_ssr = iod_ssr;
+    held->iod_corr = record->iod_corr;
+    held->c0 = record->c0;
+}
+
+static void take_orbits(struct ledger *ledger, const struct orbit_part *part)
+{
+    for (unsigned i = 0; i < part->count; i++) {
+        const struct orbit_record *record = &part->record[i];
+        if (record->slot != 0) {
+            struct held_orbit *held = &ledger->orbit[record->slot];
+            held->held = true;
+            held->iod_ssr = part->iod_ssr;
+            held->record = *record;
+        }
+    }
+}
+
+/* Refusals 14 and 15. */
+static unsigned judge_places(const struct ledger *ledger, const struct contents *c)
+{
+    const struct clock_part *part = &c->clocks;
+    unsigned place;
+
+    if (c->kind != 4 && !(c->kind == 6 && part->count > 0))
+        return 0;
+    if (!ledger->has_mask || part->iod_ssr != ledger->mask.iod_ssr || part->iodp != ledger->mask.iodp)
+        return 14;
+    place = c->kind == 4 ? 23u * part->first + 1 : part->first + part->count - 1u;
+    return place > ledger->places ? 15 : 0;
+}
+
+unsigned ref_take(struct ledger *ledger, const uint8_t *frame, size_t length)
+{
+    struct contents c = { 0 };
+    unsigned refusal = read_frame(frame, length, ledger->prn, &c);
+
+    if (refusal == 0)
+        refusal = judge_places(ledger, &c);
+    if (refusal != 0)
+        return refusal;
+    if (c.kind == 1)
+        take_mask(ledger, &c.mask);
+    for (unsigned i = 0; i < c.clocks.count; i++) {
+        const struct clock_record *record = &c.clocks.record[i];
+        if (c.kind == 7) {
+            if (record->slot != 0)
+                take_clock(ledger, record->slot, false, c.clocks.iod_ssr, record);
+        } else {
+            unsigned place = c.kind == 4 ? 23u * c.clocks.first + 1 + i : c.clocks.first + i;
+            if (place <= ledger->places)
+                take_clock(ledger, ledger->slot_at[place], true, c.clocks.iod_ssr, record);
+        }
+    }
+    take_orbits(ledger, &c.orbits);
+    return 0;
+}
+
+/* ---- the list ---- */
+
+static bool issue_wrong(const uint16_t *issues)
+{
+    for (int i = 0; i < SLOTS; i++)
+        if (issues[i] > LAST_ISSUE && issues[i] != NO_ISSUE)
+            return true;
+    return false;
+}
+
+/* Refusals 1 and 17. */
+static unsigned judge_lists(const uint16_t *issues, size_t n)
+{
+    if (n != SLOTS)
+        return 1;
+    return issue_wrong(issues) ? 17 : 0;
+}
+
+static bool qualifies(const struct ledger *ledger, const uint16_t *issues, unsigned slot)
+{
+    const struct held_orbit *orbit = &ledger->orbit[slot];
+    const struct held_clock *clock = &ledger->clock[slot];
+
+    return ledger->has_mask && ledger->mask.set[slot] && orbit->held && clock->held &&
+           orbit->iod_ssr == ledger->mask.iod_ssr && clock->iod_ssr == ledger->mask.iod_ssr &&
+           orbit->record.iod_corr == clock->iod_corr && orbit->record.ura.kind != URA_UNKNOWN &&
+           orbit->record.radial != -16384 && orbit->record.along != -4096 && orbit->record.cross != -4096 &&
+           clock->c0 != -16384 && issues[slot - 1] == orbit->record.iodn;
+}
+
+static void fill_row(const struct ledger *ledger, unsigned slot, struct row *row)
+{
+    static const uint8_t before[] = { 0, 0, 63, 100, 137 }; /* last slot before each system */
+    const struct orbit_record *orbit = &ledger->orbit[slot].record;
+
+    row->slot = (uint8_t)slot;
+    row->system = slot <= 63 ? 1 : slot <= 100 ? 2 : slot <= 137 ? 3 : 4;
+    row->number = (uint8_t)(slot - before[row->system]);
+    row->iodn = orbit->iodn;
+    row->iod_corr = orbit->iod_corr;
+    row->radial = orbit->radial * 16;
+    row->along = orbit->along * 64;
+    row->cross = orbit->cross * 64;
+    row->clock = ledger->clock[slot].c0 * 16;
+    row->ura = orbit->ura;
+}
+
+unsigned ref_count(const struct ledger *ledger, const uint16_t *issues, size_t n, size_t *count)
+{
+    unsigned refusal = judge_lists(issues, n);
+    if (refusal != 0)
+        return refusal;
+    *count = 0;
+    for (unsigned slot = 1; slot <= ASSIGNED_SLOTS; slot++)
+        if (qualifies(ledger, issues, slot))
+            ++*count;
+    return 0;
+}
+
+unsigned ref_rows(const struct ledger *ledger, const uint16_t *issues, size_t n,
+                  struct row rows[ASSIGNED_SLOTS], size_t *count)
+{
+    unsigned refusal = judge_lists(issues, n);
+    if (refusal != 0)
+        return refusal;
+    *count = 0;
+    for (unsigned slot = 1; slot <= ASSIGNED_SLOTS; slot++)
+        if (qualifies(ledger, issues, slot))
+            fill_row(ledger, slot, &rows[(*count)++]);
+    return 0;
+}
+
+unsigned ref_row_at(const struct ledger *ledger, const uint16_t *issues, size_t n, size_t position_asked,
+                    struct row *row)
+{
+    size_t seen = 0;
+    unsigned refusal = judge_lists(issues, n);
+
+    if (refusal != 0)
+        return refusal;
+    for (unsigned slot = 1; slot <= ASSIGNED_SLOTS; slot++)
+        if (qualifies(ledger, issues, slot) && ++seen == position_asked) {
+            fill_row(ledger, slot, row);
+            return 0;
+        }
+    return 18;
+}
+
+unsigned ref_row_of(const struct ledger *ledger, const uint16_t *issues, size_t n, unsigned slot,
+                    struct row *row)
+{
+    if (n != SLOTS)
+        return 1;
+    if (slot == 0 || slot > SLOTS)
+        return 11;
+    if (issue_wrong(issues))
+        return 17;
+    if (!qualifies(ledger, issues, slot))
+        return 18;
+    fill_row(ledger, slot, row);
+    return 0;
+}
+
+/* ---- the encoder ---- */
+
+/* share[i][v]: what message symbol i with value v adds to the 81 parity
+ * symbols, a byte each, eight to a word. lift[p][g]: what parity symbol p needs
+ * so that the sum of group g alone rises by 1. */
+enum { SHARE_WORDS = 11 };
+static uint64_t share[MESSAGE_SYMBOLS][64][SHARE_WORDS];
+static uint8_t lift[GROUPS][GROUPS];
+static bool solved;
+
+static uint8_t inverse(uint8_t a)
+{
+    uint8_t b = 1;
+    while (ref_times(a, b) != 1)
+        b++;
+    return b;
+}
+
+/* row += times * other, over all columns. */
+static void add_row(uint8_t *row, const uint8_t *other, uint8_t times)
+{
+    for (int j = 0; j < SYMBOLS + GROUPS; j++)
+        row[j] ^= ref_times(other[j], times);
+}
+
+/* Solves the 81 groups for the parity symbols. The matrix, with a unit matrix
+ * put to its right, is brought to the form in which the parity symbols' part is
+ * the unit matrix. Row p then has, in the message symbols' part, their factors
+ * in parity symbol p and, in the part put to the right, what it needs to lift
+ * the sum of a group. */
+static void solve(void)
+{
+    static uint8_t h[GROUPS][SYMBOLS + GROUPS];
+
+    memset(h, 0, sizeof h);
+    for (int g = 0; g < GROUPS; g++) {
+        for (int k = 0; k < 4; k++)
+            h[g][position[g][k]] = factor[g][k];
+        h[g][SYMBOLS + g] = 1;
+    }
+    for (int p = 0; p < GROUPS; p++) {
+        int column = MESSAGE_SYMBOLS + p, pivot = p;
+        while (pivot < GROUPS && h[pivot][column] == 0)
+            pivot++;
+        if (pivot == GROUPS)
+            abort(); /* the tables are not those of the document */
+        if (pivot != p)
+            add_row(h[p], h[pivot], 1);
+        add_row(h[p], h[p], inverse(h[p][column]) ^ 1); /* row + (a + 1) row = a row */
+        for (int i = 0; i < GROUPS; i++)
+            if (i != p && h[i][column] != 0)
+                add_row(h[i], h[p], h[i][column]);
+    }
+    for (int i = 0; i < MESSAGE_SYMBOLS; i++)
+        for (int v = 0; v < 64; v++) {
+            uint8_t column[SHARE_WORDS * 8] = { 0 };
+            for (int p = 0; p < GROUPS; p++)
+                column[p] = ref_times(h[p][i], (uint8_t)v);
+            memcpy(share[i][v], column, sizeof column);
+        }
+    for (int p = 0; p < GROUPS; p++)
+        memcpy(lift[p], &h[p][SYMBOLS], GROUPS);
+    solved = true;
+}
+
+void ref_encode(const uint8_t message[MESSAGE_BYTES], unsigned prn, unsigned flags,
+                uint8_t frame[FRAME_BYTES])
+{
+    uint64_t sum[SHARE_WORDS] = { 0 };
+    uint8_t parity[SHARE_WORDS * 8];
+
+    if (!solved)
+        solve();
+    memset(frame, 0, FRAME_BYTES);
+    ref_put_bits(frame, 0, 16, SYNC);
+    ref_put_bits(frame, 16, 6, prn);
+    ref_put_bits(frame, 22, 6, flags);
+    for (int i = 0; i < MESSAGE_SYMBOLS; i++) {
+        uint32_t symbol = ref_get_bits(message, 6 * (size_t)i, 6);
+        ref_put_bits(frame, CODED_BIT + 6 * (size_t)i, 6, symbol);
+        for (int k = 0; k < SHARE_WORDS; k++)
+            sum[k] ^= share[i][symbol][k];
+    }
+    memcpy(parity, sum, sizeof parity);
+    for (int p = 0; p < GROUPS; p++)
+        ref_put_bits(frame, CODED_BIT + 6 * (size_t)(MESSAGE_SYMBOLS + p), 6, parity[p]);
+}
+
+void ref_spoil(uint8_t frame[FRAME_BYTES], unsigned group, uint8_t value)
+{
+    if (!solved)
+        solve();
+    for (int p = 0; p < GROUPS; p++) {
+        size_t at = CODED_BIT + 6 * (size_t)(MESSAGE_SYMBOLS + p);
+        uint32_t symbol = ref_get_bits(frame, at, 6);
+        ref_put_bits(frame, at, 6, symbol ^ ref_times(lift[p][group], value));
+    }
+}

@@ -1,0 +1,177 @@
+/* An independent implementation of PPP-B2b messages, frames and the ledger,
+ * written from the rules and from the interface document alone. It shares no
+ * table and no code with the library that it is compared with.
+ *
+ * Functions that can refuse return the refusal number, 0 for taken. What they
+ * were lent stays as it was on a refusal, save that a refused reading gives
+ * contents that are all zero. */
+#ifndef REF_H
+#define REF_H
+
+#include <stdbool.h>
+#include <stddef.h>
+#include <stdint.h>
+
+enum {
+    FRAME_BYTES = 125,
+    MESSAGE_BYTES = 61,
+    CHECKED_BITS = 462,   /* bits that the check is made over */
+    SYMBOLS = 162,        /* symbols of the coded part */
+    MESSAGE_SYMBOLS = 81, /* those of them that are the message */
+    GROUPS = 81,          /* parity groups */
+    SLOTS = 255,
+    ASSIGNED_SLOTS = 174,
+    ORBITS = 6,           /* most orbit records that a message holds */
+    CLOCKS = 23,          /* most clock records that a message holds */
+    LAST_ISSUE = 1023,
+    NO_ISSUE = 65535
+};
+
+enum { URA_UNKNOWN, URA_QUARTERS, URA_ABOVE };
+
+struct ura {
+    uint8_t kind;      /* one of the three above */
+    uint32_t quarters; /* quarter millimetres; 0 for the other two kinds */
+};
+
+struct mask {
+    uint32_t epoch;
+    uint8_t iod_ssr;
+    uint8_t iodp;
+    bool set[SLOTS + 1]; /* by slot; entry 0 is not used */
+};
+
+struct clock_record {
+    uint16_t slot; /* in type 7 alone */
+    uint8_t iod_corr;
+    int16_t c0;
+};
+
+struct clock_part {
+    uint32_t epoch;
+    uint8_t iod_ssr;
+    uint8_t iodp;   /* types 4 and 6 */
+    uint16_t first; /* type 4: sub-type; type 6: Slot_S */
+    uint8_t count;
+    struct clock_record record[CLOCKS];
+};
+
+struct orbit_record {
+    uint16_t slot;
+    uint16_t iodn;
+    uint8_t iod_corr;
+    int16_t radial;
+    int16_t along;
+    int16_t cross;
+    struct ura ura;
+};
+
+struct orbit_part {
+    uint32_t epoch;
+    uint8_t iod_ssr;
+    uint8_t count;
+    struct orbit_record record[ORBITS];
+};
+
+/* What a message says. Values are raw; a part that the type does not have, or
+ * that is absent, is all zero. */
+struct contents {
+    uint8_t kind; /* 1, 2, 4, 6, 7 or 63 */
+    struct mask mask;
+    struct clock_part clocks;
+    struct orbit_part orbits;
+};
+
+struct held_orbit {
+    bool held;
+    uint8_t iod_ssr;
+    struct orbit_record record;
+};
+
+struct held_clock {
+    bool held;
+    bool by_place;
+    uint8_t iod_ssr;
+    uint8_t iod_corr;
+    int16_t c0;
+};
+
+struct ledger {
+    uint8_t prn;
+    bool has_mask;
+    struct mask mask;
+    uint16_t places;            /* number of set bits of the mask */
+    uint8_t slot_at[SLOTS + 1]; /* slot_at[n] has place n, 1 to places */
+    struct held_orbit orbit[SLOTS + 1];
+    struct held_clock clock[SLOTS + 1];
+};
+
+struct row {
+    uint8_t slot;
+    uint8_t system; /* 1 BeiDou, 2 GPS, 3 Galileo, 4 GLONASS */
+    uint8_t number; /* of the satellite in its system */
+    uint16_t iodn;
+    uint8_t iod_corr;
+    int32_t radial, along, cross, clock; /* tenths of a millimetre */
+    struct ura ura;
+};
+
+/* Field of 64: the product of two symbols. */
+uint8_t ref_times(uint8_t a, uint8_t b);
+
+/* Whether all 81 parity groups of the 162 symbols are zero. */
+bool ref_parity(const uint8_t symbol[SYMBOLS]);
+
+/* The symbols of a frame's coded part. */
+void ref_symbols(const uint8_t frame[FRAME_BYTES], uint8_t symbol[SYMBOLS]);
+
+/* The 24-bit check over the first 462 bits. */
+uint32_t ref_check(const uint8_t message[MESSAGE_BYTES]);
+
+/* The bit after the last of a type 6 or 7 with these counts. */
+unsigned ref_end(unsigned kind, unsigned num_c, unsigned num_o);
+
+/* URA of a code 0 to 63, and the code of a URA or -1 if no code gives it. */
+struct ura ref_ura(unsigned code);
+int ref_ura_code(struct ura ura);
+
+/* Fields: `width` bits (at most 32) from bit `at` on, high bit first. */
+uint32_t ref_get_bits(const uint8_t *bytes, size_t at, unsigned width);
+void ref_put_bits(uint8_t *bytes, size_t at, unsigned width, uint32_t value);
+
+/* Messages: refusals 1, 2, 7 to 13 on reading; 1, 8 to 13, 16 on writing. */
+unsigned ref_read(const uint8_t *message, size_t length, struct contents *out);
+unsigned ref_write(const struct contents *in, uint8_t *room, size_t length);
+
+/* A frame without a ledger: refusals 1, 3, 5 to 13. */
+unsigned ref_read_frame(const uint8_t *frame, size_t length, struct contents *out);
+
+/* The ledger: 4 on opening; 1, 3 to 15 on taking a frame. */
+unsigned ref_open(struct ledger *ledger, unsigned prn);
+unsigned ref_take(struct ledger *ledger, const uint8_t *frame, size_t length);
+
+/* The list, against `n` broadcast issues, issues[k - 1] for slot k. Count and
+ * all rows, in rising slot order: refusals 1, 17. Row at a position (from 1):
+ * 1, 17, 18. Row of a slot: 1, 11, 17, 18. */
+unsigned ref_count(const struct ledger *ledger, const uint16_t *issues, size_t n, size_t *count);
+unsigned ref_rows(const struct ledger *ledger, const uint16_t *issues, size_t n,
+                  struct row rows[ASSIGNED_SLOTS], size_t *count);
+unsigned ref_row_at(const struct ledger *ledger, const uint16_t *issues, size_t n, size_t position,
+                    struct row *row);
+unsigned ref_row_of(const struct ledger *ledger, const uint16_t *issues, size_t n, unsigned slot,
+                    struct row *row);
+
+/* The frame of a message's 486 bits: its parity symbols solve the 81 groups.
+ * PRN and flags are written as they are, 6 bits each. */
+void ref_encode(const uint8_t message[MESSAGE_BYTES], unsigned prn, unsigned flags,
+                uint8_t frame[FRAME_BYTES]);
+
+/* Changes parity symbols of a frame so that the sum of one group (0 to 80)
+ * changes by `value` and the sums of all others stay. */
+void ref_spoil(uint8_t frame[FRAME_BYTES], unsigned group, uint8_t value);
+
+/* The PRN of a frame, and the type of its message. */
+unsigned ref_frame_prn(const uint8_t frame[FRAME_BYTES]);
+unsigned ref_frame_type(const uint8_t frame[FRAME_BYTES]);
+
+#endif

@@ -1,0 +1,126 @@
+/* A stand-in for the library: its C boundary over the independent
+ * implementation. With it the comparison can be run against itself, its power
+ * to find faults can be tried (see mutants), and the benchmark has its second
+ * contender. */
+#include "forms.h"
+#include "library.h"
+#include "ref.h"
+
+#include <string.h>
+
+_Static_assert(sizeof(struct ledger) <= QVD_LEDGER_BYTES, "the ledger fits its bytes");
+_Static_assert((int)ROW_FORM_BYTES == (int)QVD_ROW_BYTES, "one row form");
+_Static_assert((int)CONTENTS_FORM_BYTES == (int)QVD_CONTENTS_BYTES, "one contents form");
+
+static void store(uint8_t *bytes, const struct ledger *ledger)
+{
+    memcpy(bytes, ledger, sizeof *ledger);
+    memset(bytes + sizeof *ledger, 0, QVD_LEDGER_BYTES - sizeof *ledger);
+}
+
+uint8_t qvd_open(uint8_t *ledger, size_t n, uint8_t prn)
+{
+    struct ledger l;
+    unsigned refusal;
+    if (n != QVD_LEDGER_BYTES)
+        return 39;
+    refusal = ref_open(&l, prn);
+    if (refusal == 0)
+        store(ledger, &l);
+    return (uint8_t)refusal;
+}
+
+uint8_t qvd_take(uint8_t *ledger, size_t n, const uint8_t *frame, size_t m)
+{
+    struct ledger l;
+    unsigned refusal;
+    if (n != QVD_LEDGER_BYTES)
+        return 39;
+    memcpy(&l, ledger, sizeof l);
+    refusal = ref_take(&l, frame, m);
+    if (refusal == 0)
+        store(ledger, &l);
+    return (uint8_t)refusal;
+}
+
+uint8_t qvd_replay(uint8_t *ledger, size_t n, uint8_t prn, const uint8_t *log, size_t m,
+                   uint8_t *verdicts, size_t k)
+{
+    struct ledger l;
+    unsigned refusal;
+    if (n != QVD_LEDGER_BYTES || k != m / FRAME_BYTES + (m % FRAME_BYTES != 0))
+        return 39;
+    refusal = ref_open(&l, prn);
+    if (refusal != 0)
+        return (uint8_t)refusal;
+    for (size_t i = 0; i < k; i++) {
+        size_t at = i * FRAME_BYTES, left = m - at;
+        verdicts[i] = (uint8_t)ref_take(&l, log + at, left < FRAME_BYTES ? left : FRAME_BYTES);
+    }
+    store(ledger, &l);
+    return 0;
+}
+
+uint8_t qvd_rows(const uint8_t *ledger, size_t n, const uint16_t *issues, size_t k, uint8_t *rows, size_t r)
+{
+    struct ledger l;
+    struct row row[ASSIGNED_SLOTS];
+    size_t count;
+    unsigned refusal;
+    if (n != QVD_LEDGER_BYTES || r != QVD_ROWS_BYTES)
+        return 39;
+    memcpy(&l, ledger, sizeof l);
+    refusal = ref_rows(&l, issues, k, row, &count);
+    if (refusal != 0)
+        return (uint8_t)refusal;
+    memset(rows, 0, r);
+    for (size_t i = 0; i < count; i++)
+        row_to_bytes(&row[i], rows + i * QVD_ROW_BYTES);
+    return 0;
+}
+
+uint8_t qvd_row(const uint8_t *ledger, size_t n, const uint16_t *issues, size_t k, uint16_t slot,
+                uint8_t *row, size_t r)
+{
+    struct ledger l;
+    struct row found;
+    unsigned refusal;
+    if (n != QVD_LEDGER_BYTES || r != QVD_ROW_BYTES)
+        return 39;
+    memcpy(&l, ledger, sizeof l);
+    refusal = ref_row_of(&l, issues, k, slot, &found);
+    if (refusal == 0)
+        row_to_bytes(&found, row);
+    return (uint8_t)refusal;
+}
+
+uint8_t qvd_read(const uint8_t *message, size_t m, uint8_t *contents, size_t k)
+{
+    struct contents c;
+    unsigned refusal;
+    if (k != QVD_CONTENTS_BYTES)
+        return 39;
+    refusal = ref_read(message, m, &c);
+    contents_to_bytes(&c, contents);
+    return (uint8_t)refusal;
+}
+
+uint8_t qvd_read_frame(const uint8_t *frame, size_t m, uint8_t *contents, size_t k)
+{
+    struct contents c;
+    unsigned refusal;
+    if (k != QVD_CONTENTS_BYTES)
+        return 39;
+    refusal = ref_read_frame(frame, m, &c);
+    contents_to_bytes(&c, contents);
+    return (uint8_t)refusal;
+}
+
+uint8_t qvd_write(const uint8_t *contents, size_t k, uint8_t *room, size_t m)
+{
+    struct contents c;
+    if (k != QVD_CONTENTS_BYTES)
+        return 39;
+    contents_from_bytes(contents, &c);
+    return (uint8_t)ref_write(&c, room, m);
+}
