@@ -1,6 +1,6 @@
 -- Laws of refusals, and of the contents of a frame that none applies to.
 use mathlib.Core.Path.{_≡_, refl, sym}
-use mathlib.Core.Logic.{dite}
+use mathlib.Core.Logic.{_≢_, dite}
 use mathlib.Core.Bool.{Bool, true, false, not, _||_}
 use mathlib.Core.List.{List, [], _∷_}
 use Prim.Native.Nat.{ℕ, _+_, _≤_}
@@ -8,7 +8,7 @@ use native.Mathlib.Decide.{ℕ-discrete}
 use native.Mathlib.Omega.{arith}
 use lib.Dec.{eqb}
 use lib.ListN.{length}
-use borrow.Author.Tests.{eq-eqb, ne-eqb}
+use borrow.Author.Tests.{eq-eqb, ne-eqb, not-false}
 use Rattle.bits.specs.Pick.{pick}
 use Rattle.bits.specs.Some.{first}
 use Rattle.bits.proofs.TableLaws.{length-table}
@@ -36,7 +36,11 @@ neither a b e =
     (λ p. dite (ℕ-discrete b 0) (λ q. (p, q)) (λ q. absurd (q (rw (eq-eqb a 0 p, ne-eqb b 0 q) at e))))
     (λ p. absurd (p (rw (ne-eqb a 0 p) at e)))
 
--- and the second is given where the first does not apply
+-- the first is given where it applies
+pub leading : (a b : ℕ) → a ≢ 0 → first ((a, not (eqb a 0)) ∷ (b, not (eqb b 0)) ∷ []) ≡ a
+leading a b n = rw (ne-eqb a 0 n)
+
+-- and the second where the first does not
 pub second : (a b : ℕ) → a ≡ 0 → first ((a, not (eqb a 0)) ∷ (b, not (eqb b 0)) ∷ []) ≡ b
 second a b e = dite (ℕ-discrete b 0) (λ q. rw (eq-eqb a 0 e, eq-eqb b 0 q) (sym q)) (λ q. rw (eq-eqb a 0 e, ne-eqb b 0 q))
 
@@ -59,10 +63,6 @@ pub record Sound (c : Contents) : Type 0 where
   pub once : twice (c .clock) (c .orbit) ≡ false
   pub known : reservedBit (c .mask .bits) ≡ false
 
-not-not : (b : Bool) → not b ≡ false → b ≡ true
-not-not true e = refl
-not-not false e = sym e
-
 pub sound : (c : Contents) → refusalOf c ≡ 0 → Sound c
 unfolding refusalOf
 sound c e =
@@ -81,7 +81,7 @@ sound c e =
     let r11 = skipped 11 b11 n12 (omega arith) (r10 .1) in
     let r12 = skipped 12 b12 n13 (omega arith) (r11 .1) in
     let r13 = skipped 13 b13 0 (omega arith) (r12 .1) in
-    record { kind = not-not (isKind (c .kind)) (r8 .0); short = r9 .0; early = r10 .0; low = r11 .0; once = r12 .0; known = r13 .0 }
+    record { kind = not-false (isKind (c .kind)) (r8 .0); short = r9 .0; early = r10 .0; low = r11 .0; once = r12 .0; known = r13 .0 }
 
 -- ---- the parts of a frame's contents are as long as their arrays
 pub mask-long : (f : List ℕ) → length (contentsOf f .mask .bits) ≡ 255

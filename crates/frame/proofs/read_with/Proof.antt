@@ -1,6 +1,5 @@
 use borrow.Author.Needs.{needs}
 use borrow.Author.Tests.{eq-eqb, ne-eqb}
-use mathlib.Core.Path.{sym, _∙_}
 use Rattle.message.specs.Read.{answer}
 use Rattle.message.proofs.ReadLaws.{number-last}
 use Rattle.frame.specs.Frame.{refusalWith}

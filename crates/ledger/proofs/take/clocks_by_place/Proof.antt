@@ -1,0 +1,143 @@
+-- The records from j on, from place first + j on, are still to be kept.
+use borrow.Author.Needs.{needs}
+use native.Mathlib.Omega.{arith}
+use Prim.Native.Nat.{ℕ, _+_, _-_, _≤_, _<_}
+use native.Mathlib.Nat.{add-zero}
+use mathlib.Core.Bool.{true}
+use mathlib.Core.Path.{_≡_, sym, ap, _∙_, refl}
+use mathlib.Core.Logic.{⊎-elim}
+use lib.ListN.{length, take, drop, length-take}
+use lib.Seq.{getD-take}
+use Rattle.records.specs.Clock.{blankClock}
+use Rattle.form.specs.Form.{clockBytes, putClocks}
+use Rattle.mask.specs.Mask.{bitsAt, maskAt}
+use Rattle.ledger.specs.Keeps.{heldClock, byPlace}
+use Rattle.ledger.proofs.KeepLaws.{length-mapped, turn, stop, place-step, place-end, clocks-placed, placed-not-7}
+use Rattle.ledger.proofs.ViewLaws.{clock-bits}
+use Rattle.ledger.proofs.take.clocks_by_place.Statement.{statement}
+use Rattle.ledger.proofs.take.clocks_by_place.Tie as tie
+
+abbrev Inv-loop : tie.InvT-loop
+Inv-loop t₀ kind p ks first count j₀ t j =
+    (j ≤ 23)
+    × (length (p .clocks) ≡ 23)
+    × (length t ≡ length t₀)
+    × (bitsAt t ≡ bitsAt t₀)
+    × (putClocks t (byPlace (heldClock true (p .epoch) (p .ssr)) (bitsAt t₀) (drop j (take (p .count) (p .clocks))) (first + j)) ≡ putClocks t₀ (byPlace (heldClock true (p .epoch) (p .ssr)) (bitsAt t₀) (take (p .count) (p .clocks)) first))
+
+abbrev μ-loop : tie.MeasureT-loop
+μ-loop t₀ kind p ks first count j₀ t j = 23 - j
+
+first-place-requires : tie.Need-first-place-requires Inv-loop μ-loop
+first-place-requires c κs = search needs
+
+cast-first : tie.Need-cast-first Inv-loop μ-loop
+cast-first c = record { fits = omega (arith, c .first-place .ensures, c .before .before .before .pre) }
+
+cast-count : tie.Need-cast-count Inv-loop μ-loop
+cast-count c = search needs
+
+loop-holds : tie.Need-loop-holds Inv-loop μ-loop
+loop-holds c =
+    let a = c .before .before .before .before .args in
+    let p = a .p in
+    let first = c .before .first-place .result in
+    (omega arith, search (needs, length-mapped), refl, refl, ap (λ (n : ℕ). putClocks (a .t .now) (byPlace (heldClock true (p .epoch) (p .ssr)) (bitsAt (a .t .now)) (take (p .count) (p .clocks)) n)) (add-zero first))
+
+cast-t16 : tie.Need-cast-t16 Inv-loop μ-loop
+cast-t16 c = search needs
+
+add-t17 : tie.Need-add-t17 Inv-loop μ-loop
+add-t17 c = search needs
+
+nth-set-requires : tie.Need-nth-set-requires Inv-loop μ-loop
+nth-set-requires c κs = search needs
+
+mul-held-clock : tie.Need-mul-held-clock Inv-loop μ-loop
+mul-held-clock c = search needs
+
+array-copy-out-held-clock : tie.Need-array-copy-out-held-clock Inv-loop μ-loop
+array-copy-out-held-clock c = turn (c .before .before .before .loop .j) (c .before .before .before .before .before .before .before .before .args .p .count) (c .before .before .loop-test .taken) .0
+
+held-clock-requires : tie.Need-held-clock-requires Inv-loop μ-loop
+held-clock-requires c κs = search needs
+
+cast-put-clock : tie.Need-cast-put-clock Inv-loop μ-loop
+cast-put-clock c = search needs
+
+put-clock-requires : tie.Need-put-clock-requires Inv-loop μ-loop
+put-clock-requires c κs = search needs
+
+add-j : tie.Need-add-j Inv-loop μ-loop
+add-j c = search needs
+
+loop-less : tie.Need-loop-less Inv-loop μ-loop
+loop-less c = omega (arith, turn (c .before .before .before .before .before .before .before .before .before .before .loop .j) (c .before .before .before .before .before .before .before .before .before .before .before .before .before .before .before .args .p .count) (c .before .before .before .before .before .before .before .before .before .loop-test .taken))
+
+loop-again : tie.Need-loop-again Inv-loop μ-loop
+loop-again c =
+    let c2 = c .before .before .before .before .before .before .before in
+    let c1 = c2 .before .before .before in
+    let c0 = c1 .before .before .before .before .before in
+    let l = c1 .loop in
+    let a = c0 .args in
+    let p = a .p in
+    let first = c1 .before .before .first-place .result in
+    let near = turn (l .j) (p .count) (c2 .before .before .loop-test .taken) in
+    let records = take (p .count) (p .clocks) in
+    let within : l .j < length records = omega (arith, length-take (p .count) (p .clocks)) in
+    let slot = rw (l .inv .3) at (c2 .nth-set .ensures) in
+    let put = rw (c .before .before .before .before .before .held-clock .ensures, slot) at (c .before .before .put-clock .ensures) in
+    let next : first + l .j + 1 ≡ first + (l .j + 1) = omega arith in
+    let step =
+    rw (getD-take (p .count) (p .clocks) (l .j) blankClock (near .1)) at
+    (place-step clockBytes 12 260 (heldClock true (p .epoch) (p .ssr)) records (l .j) blankClock (l .t) (bitsAt (a .t .now)) (first + l .j) within)
+    in (
+      omega arith,
+      l .inv .1,
+      c .before .before .put-clock .kept .0 ∙ l .inv .2,
+      rw (c .before .before .put-clock .ensures) (clock-bits (l .t) _ _ ∙ l .inv .3),
+      rw (put, ← next) (sym step ∙ l .inv .4),
+    )
+
+same-length : tie.Need-same-length Inv-loop μ-loop
+same-length c = search needs
+
+returns : tie.Need-returns Inv-loop μ-loop
+returns c =
+    let l = c .before .loop in
+    let c0 = c .before .before .before .before .before .before in
+    let a = c0 .args in
+    let p = a .p in
+    let first = c .before .before .before .first-place .result in
+    let records = take (p .count) (p .clocks) in
+    let bits = bitsAt (a .t .now) in
+    let end : length records ≤ l .j = ⊎-elim (λ h. omega (arith, length-take (p .count) (p .clocks))) (λ h. omega (arith, length-take (p .count) (p .clocks))) (stop (l .j) (p .count) (c .loop-test .left)) in
+    sym (place-end clockBytes 12 260 (heldClock true (p .epoch) (p .ssr)) records (l .j) blankClock (l .t) bits (first + l .j) end)
+    ∙ l .inv .4
+    ∙ ap (λ (n : ℕ). putClocks (a .t .now) (byPlace (heldClock true (p .epoch) (p .ssr)) bits records n)) (c .before .before .before .first-place .ensures)
+    ∙ ap (putClocks (a .t .now)) (sym (clocks-placed (maskAt (a .t .now)) (a .kind) p (placed-not-7 (maskAt (a .t .now)) (a .kind) p (c0 .pre .0)) (c0 .pre .0)))
+
+pub clocks-by-place-spec : {M : Type 1} → statement M
+clocks-by-place-spec =
+    tie.close
+    (tie.spec
+    Inv-loop
+    μ-loop
+    first-place-requires
+    cast-first
+    cast-count
+    loop-holds
+    cast-t16
+    add-t17
+    nth-set-requires
+    mul-held-clock
+    array-copy-out-held-clock
+    held-clock-requires
+    cast-put-clock
+    put-clock-requires
+    add-j
+    loop-less
+    loop-again
+    same-length
+    returns)

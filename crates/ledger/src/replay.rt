@@ -1,0 +1,54 @@
+// A whole log of frames, by what is in force after it.
+ghost use mathlib.Core.Path.{_≡_};
+ghost use Prim.Native.Nat.{_+_, _/_, _<_};
+ghost use lib.ListN.{length};
+ghost use Rattle.message.specs.Read.{verdictOf};
+ghost use Rattle.ledger.specs.Bytes.{openRefusal, takeBytes, frameAt, runBytes, framesOf, Replayed};
+use crate::Ledger;
+use crate::open::is_prn;
+use crate::open::make_fresh;
+use crate::take::take_in;
+use message::read::Verdict;
+
+// How many frames a log of n bytes has: pieces of 125, and one more for what is left at the end.
+pub fn frame_count(n: usize) -> usize
+    ensures { λ r. ⌜ r ≡ (n + 124) / 125 ⌝ }
+{
+    if n % 125 == 0 { n / 125 } else { n / 125 + 1 }
+}
+
+// Frame i of a log, from 0, is taken.
+fn take_nth(t: &mut [u8], log: &[u8], i: usize)
+    requires { ⌜ i < (length (now log) + 124) / 125 ⌝ }
+    ensures { λ r. ⌜ now (t .exit) ≡ takeBytes (now (t .entry)) (frameAt (now (log .entry)) i) ⌝ }
+{
+    let a = 125 * i;
+    let left = log.len() - a;
+    let e = if left < 125 { log.len() } else { a + 125 };
+    take_in(t, &log[a..e]);
+}
+
+// The frames of a log are taken in order.
+pub fn take_log(t: &mut [u8], log: &[u8])
+    ensures { λ r. ⌜ now (t .exit) ≡ runBytes (now (t .entry)) (framesOf (now (log .entry))) ⌝ }
+{
+    let n = frame_count(log.len());
+    let mut i: usize = 0;
+    while i < n {
+        take_nth(t, log, i);
+        i += 1;
+    }
+}
+
+// A fresh ledger for the PRN has taken the frames of a log: it holds what is in force after them, by looking back.
+pub fn replay(ledger: &mut Ledger, prn: u8, log: &[u8]) -> Verdict
+    ensures verdict { λ r. ⌜ r ≡ verdictOf (openRefusal prn) ⌝ }
+    ensures ledger { λ r. ⌜ Replayed (now (ledger .entry)) prn (now (log .entry)) (now (ledger .exit)) ⌝ }
+{
+    if !is_prn(prn) {
+        return Verdict::Refused(4);
+    }
+    make_fresh(ledger, prn);
+    take_log(ledger, log);
+    Verdict::Taken
+}

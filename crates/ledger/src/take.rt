@@ -1,0 +1,241 @@
+// Taking one frame, whole or not at all.
+ghost use mathlib.Core.Path.{_≡_};
+ghost use mathlib.Core.Bool.{true};
+ghost use Prim.Native.Nat.{_≤_};
+ghost use Rattle.bits.specs.Pick.{pick};
+ghost use Rattle.form.specs.Form.{putClocks, putOrbits, droppedClocks};
+ghost use Rattle.mask.specs.Mask.{maskAt, heldMask, sameMask};
+ghost use Rattle.message.specs.Read.{verdictOf};
+ghost use Rattle.ledger.specs.Keeps.{heldOrbit, heldClock, orbitsOf, clocksOf, needsMask, firstPlace, placeToCheck, placeRefusal};
+ghost use Rattle.ledger.specs.Bytes.{prnAt, maskBytes, takenBytes, takeRefusal, takeBytes};
+use crate::Ledger;
+use form::HeldClock;
+use form::HeldOrbit;
+use message::parts::ClockPart;
+use message::parts::Contents;
+use message::parts::MaskPart;
+use message::parts::OrbitPart;
+use message::read::Verdict;
+use records::clock::Clock;
+use records::orbit::Orbit;
+use records::slots::Place;
+
+// The PRN that the ledger is for.
+fn ledger_prn(t: &[u8]) -> u8
+    ensures { λ r. ⌜ r ≡ prnAt (now (t .entry)) ⌝ }
+{
+    if 0 < t.len() { t[0] } else { 0 }
+}
+
+// Whether the clock records go by places in the mask.
+fn needs_mask(kind: u8, p: ClockPart) -> bool
+    ensures { λ r. ⌜ r ≡ needsMask kind p ⌝ }
+{
+    (kind == 4) | ((kind == 6) & (p.count > 0))
+}
+
+// The place of the first clock record.
+fn first_place(kind: u8, p: ClockPart) -> u32
+    ensures { λ r. ⌜ r ≡ firstPlace kind p ⌝ }
+{
+    if kind == 4 {
+        23 * (p.start as u32) + 1
+    } else {
+        p.start as u32
+    }
+}
+
+// The place that must lie within the mask: type 4's first, type 6's last.
+fn place_to_check(kind: u8, p: ClockPart) -> u32
+    ensures { λ r. ⌜ r ≡ placeToCheck kind p ⌝ }
+{
+    if kind == 4 {
+        return 23 * (p.start as u32) + 1;
+    }
+    let end = p.start as u32 + p.count as u32;
+    if end == 0 { 0 } else { end - 1 }
+}
+
+// Why clocks by place are refused under the mask held: 14 or 15; 0 if they are not.
+fn place_refusal(t: &[u8], kind: u8, p: ClockPart) -> u8
+    ensures { λ r. ⌜ r ≡ placeRefusal (maskAt (now (t .entry))) kind p ⌝ }
+{
+    if !needs_mask(kind, p) {
+        return 0;
+    }
+    if !mask::has_mask(t) {
+        return 14;
+    }
+    if mask::mask_ssr(t) != p.ssr {
+        return 14;
+    }
+    if mask::mask_iodp(t) != p.iodp {
+        return 14;
+    }
+    if (mask::set_count(t) as u32) < place_to_check(kind, p) {
+        return 15;
+    }
+    0
+}
+
+// A clock record as it is kept.
+fn held_clock(placed: bool, epoch: u32, ssr: u8, k: Clock) -> HeldClock
+    ensures { λ r. ⌜ r ≡ heldClock placed epoch ssr k ⌝ }
+{
+    HeldClock {
+        has: true,
+        placed,
+        epoch,
+        ssr,
+        corr: k.corr,
+        c0: k.c0,
+    }
+}
+
+// An orbit record as it is kept.
+fn held_orbit(epoch: u32, ssr: u8, o: Orbit) -> HeldOrbit
+    ensures { λ r. ⌜ r ≡ heldOrbit epoch ssr o ⌝ }
+{
+    let ura = o.ura;
+    HeldOrbit {
+        has: true,
+        epoch,
+        ssr,
+        iodn: o.iodn,
+        corr: o.corr,
+        radial: o.radial,
+        along: o.along,
+        cross: o.cross,
+        ura,
+    }
+}
+
+// Clock records that name their slots are kept.
+fn clocks_by_slot(t: &mut [u8], p: ClockPart)
+    ensures { λ r. ⌜ now (t .exit) ≡ putClocks (now (t .entry)) (clocksOf (maskAt (now (t .entry))) 7 p) ⌝ }
+{
+    let ks = p.clocks;
+    let mut j: usize = 0;
+    while j < 23 {
+        let k = ks[j];
+        let h = held_clock(false, p.epoch, p.ssr, k);
+        form::put_clock(t, k.slot, h);
+        j += 1;
+    }
+}
+
+// Clock records from a place on are kept, each for the slot that has its place; filler is none.
+fn clocks_by_place(t: &mut [u8], kind: u8, p: ClockPart)
+    requires { ⌜ (needsMask kind p ≡ true) × (firstPlace kind p ≤ 255) ⌝ }
+    ensures { λ r. ⌜ now (t .exit) ≡ putClocks (now (t .entry)) (clocksOf (maskAt (now (t .entry))) kind p) ⌝ }
+{
+    let ks = p.clocks;
+    let first = first_place(kind, p) as u16;
+    let count = p.count as usize;
+    let mut j: usize = 0;
+    while (j < 23) & (j < count) {
+        let slot = mask::nth_set(t, Place(first + j as u16));
+        let h = held_clock(true, p.epoch, p.ssr, ks[j]);
+        form::put_clock(t, slot.0 as u16, h);
+        j += 1;
+    }
+}
+
+// The clock records are kept.
+fn take_clocks(t: &mut [u8], kind: u8, p: ClockPart)
+    requires { ⌜ placeRefusal (maskAt (now t)) kind p ≡ 0 ⌝ }
+    ensures { λ r. ⌜ now (t .exit) ≡ putClocks (now (t .entry)) (clocksOf (maskAt (now (t .entry))) kind p) ⌝ }
+{
+    if kind == 7 {
+        clocks_by_slot(t, p);
+        return;
+    }
+    if needs_mask(kind, p) {
+        clocks_by_place(t, kind, p);
+    }
+}
+
+// Orbit records are kept, each for the slot that it names.
+fn orbits_by_slot(t: &mut [u8], p: OrbitPart)
+    ensures { λ r. ⌜ now (t .exit) ≡ putOrbits (now (t .entry)) (orbitsOf 2 p) ⌝ }
+{
+    let os = p.orbits;
+    let mut j: usize = 0;
+    while j < 6 {
+        let o = os[j];
+        let h = held_orbit(p.epoch, p.ssr, o);
+        form::put_orbit(t, o.slot, h);
+        j += 1;
+    }
+}
+
+// The orbit records are kept.
+fn take_orbits(t: &mut [u8], kind: u8, p: OrbitPart)
+    ensures { λ r. ⌜ now (t .exit) ≡ putOrbits (now (t .entry)) (orbitsOf kind p) ⌝ }
+{
+    if (kind == 2) | (kind == 6) | (kind == 7) {
+        orbits_by_slot(t, p);
+    }
+}
+
+// If another mask is held than this one, clocks that came by place go.
+fn drop_for(t: &mut [u8], m: MaskPart)
+    ensures { λ r. ⌜ now (t .exit) ≡ pick (sameMask (maskAt (now (t .entry))) (heldMask m)) (now (t .entry)) (droppedClocks (now (t .entry)) 255) ⌝ }
+{
+    if !mask::same_mask(t, m) {
+        form::drop_placed(t);
+    }
+}
+
+// A mask is taken.
+fn take_mask(t: &mut [u8], m: MaskPart)
+    ensures { λ r. ⌜ now (t .exit) ≡ maskBytes (now (t .entry)) m ⌝ }
+{
+    drop_for(t, m);
+    mask::put_mask(t, m);
+}
+
+// Contents that no refusal applies to are taken.
+fn take_contents(t: &mut [u8], c: Contents)
+    requires { ⌜ placeRefusal (maskAt (now t)) (c .kind) (c .clock) ≡ 0 ⌝ }
+    ensures { λ r. ⌜ now (t .exit) ≡ takenBytes (now (t .entry)) c ⌝ }
+{
+    let kind = c.kind;
+    if kind == 1 {
+        let m = c.mask;
+        take_mask(t, m);
+        return;
+    }
+    let k = c.clock;
+    let o = c.orbit;
+    take_clocks(t, kind, k);
+    take_orbits(t, kind, o);
+}
+
+// A frame is taken into the bytes of a ledger, or refused.
+pub fn take_in(t: &mut [u8], frame: &[u8]) -> Verdict
+    ensures verdict { λ r. ⌜ r ≡ verdictOf (takeRefusal (now (t .entry)) (now (frame .entry))) ⌝ }
+    ensures bytes { λ r. ⌜ now (t .exit) ≡ takeBytes (now (t .entry)) (now (frame .entry)) ⌝ }
+{
+    let r = frame::read_for(frame, ledger_prn(t));
+    let v = r.verdict;
+    let Verdict::Taken = v else {
+        return v;
+    };
+    let c = r.contents;
+    let k = c.clock;
+    let n = place_refusal(t, c.kind, k);
+    if n != 0 {
+        return Verdict::Refused(n);
+    }
+    take_contents(t, c);
+    Verdict::Taken
+}
+
+// A frame is taken into a ledger: refusals 1, 3 to 15, lowest first. On a refusal every byte is as it was.
+pub fn take(ledger: &mut Ledger, frame: &[u8]) -> Verdict
+    ensures verdict { λ r. ⌜ r ≡ verdictOf (takeRefusal (now (ledger .entry)) (now (frame .entry))) ⌝ }
+    ensures bytes { λ r. ⌜ now (ledger .exit) ≡ takeBytes (now (ledger .entry)) (now (frame .entry)) ⌝ }
+{
+    take_in(ledger, frame)
+}

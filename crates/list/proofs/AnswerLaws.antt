@@ -1,0 +1,105 @@
+-- What a question's answer says of the row behind it.
+use Prim.Native.Nat.{ℕ, _+_, _-_, _<_, _≤_}
+use mathlib.Core.Path.{_≡_, refl, ap}
+use mathlib.Core.List.{List}
+use mathlib.Core.Logic.{dite}
+use native.Mathlib.Decide.{ℕ-discrete}
+use borrow.Author.Tests.{eq-eqb, ne-eqb, lt-ltb, le-ltb}
+use mathlib.Core.Option.{Option, none, some}
+use mathlib.Core.Bool.{Bool, true, false}
+use native.Mathlib.Omega.{arith}
+use lib.ListN.{length, getD}
+use Rattle.bits.specs.Pick.{pick}
+use Rattle.store.specs.Walk.{toList}
+use Rattle.list.specs.Row.{answerOf, rowHeld}
+use Rattle.bits.specs.Some.{some as someOf}
+use Rattle.list.specs.Issues.{isIll, issuesRefusal}
+use Rattle.list.specs.Rows.{foundCount, rowIn, listIn, countAnswer, rowAtAnswer, rowOfSlotAnswer}
+use Rattle.store.specs.Walk.{nthOf}
+use Rattle.list.specs.declared.rows.Count.the-variants as count
+use Rattle.list.specs.declared.row.Row.{Row}
+use Rattle.list.specs.declared.row.RowAnswer.{RowAnswer}
+use Rattle.list.specs.declared.row.RowAnswer.the-variants.{Found, Refused}
+
+pub found-some : (o : Option Row) (r : Row) → answerOf 0 o ≡ Found r → o ≡ some r
+found-some (some q) r e = cc
+found-some none r e = absurd (let z : _≡_ {A = ℕ} 0 1 = cc in omega arith)
+
+pub refused-none : (o : Option Row) (n : ℕ) → answerOf 0 o ≡ Refused n → o ≡ none
+refused-none (some q) n e = absurd (let z : _≡_ {A = ℕ} 0 1 = cc in omega arith)
+refused-none none n e = refl
+
+pub count-one : (o : Option Row) → foundCount (answerOf 0 o) ≡ length (toList o)
+count-one (some q) = refl
+count-one none = refl
+
+pub found-le : (a : RowAnswer) → foundCount a ≤ 1
+found-le (Found r) = omega arith
+found-le (Refused n) = omega arith
+
+-- slot i + 1 takes entry i
+pub row-next : (s is : List ℕ) (i : ℕ) → rowIn s is (i + 1) ≡ rowHeld s (getD is i 0) (i + 1)
+row-next s is i = let e : i + 1 - 1 ≡ i = omega arith in rw e
+
+-- a broadcast list that is not refused has 255 entries, none of them ill
+pub issues-long : (is : List ℕ) → issuesRefusal is ≡ 0 → length is ≡ 255
+unfolding issuesRefusal
+issues-long is e =
+    dite (ℕ-discrete (length is) 255) (λ q. q)
+    (λ n. absurd (let z : _≡_ {A = ℕ} 1 0 = rw (ne-eqb (length is) 255 n) at e in omega arith))
+
+pub issues-sound : (is : List ℕ) → issuesRefusal is ≡ 0 → someOf isIll is ≡ false
+unfolding issuesRefusal
+issues-sound is e = go (someOf isIll is) (rw (eq-eqb (length is) 255 (issues-long is e)) at e)
+  where
+    go : (b : Bool) → _≡_ {A = ℕ} (pick b 17 0) 0 → b ≡ false
+    go true h = absurd (let z : _≡_ {A = ℕ} 17 0 = h in omega arith)
+    go false h = refl
+
+-- the cases of the three questions
+module _ (s is : List ℕ) where
+  pub count-bad : (issuesRefusal is ≡ 0 → ⊥) → countAnswer s is ≡ count.Refused (issuesRefusal is)
+  unfolding countAnswer
+  count-bad n = rw (ne-eqb (issuesRefusal is) 0 n)
+
+  pub count-right : issuesRefusal is ≡ 0 → countAnswer s is ≡ count.Rows (length (listIn s is))
+  unfolding countAnswer
+  count-right e = rw (eq-eqb (issuesRefusal is) 0 e)
+
+  answer-bad : (m : ℕ) (o : Option Row) → (m ≡ 0 → ⊥) → answerOf m o ≡ Refused m
+  answer-bad m (some r) n = rw (ne-eqb m 0 n)
+  answer-bad m none n = rw (ne-eqb m 0 n)
+
+  pub at-bad : (n : ℕ) → (issuesRefusal is ≡ 0 → ⊥) → rowAtAnswer s is n ≡ Refused (issuesRefusal is)
+  unfolding rowAtAnswer
+  at-bad n e = answer-bad (issuesRefusal is) (nthOf (listIn s is) n) e
+
+  pub at-right : (n : ℕ) → issuesRefusal is ≡ 0 → rowAtAnswer s is n ≡ answerOf 0 (nthOf (listIn s is) n)
+  unfolding rowAtAnswer
+  at-right n e = ap (λ (m : ℕ). answerOf m (nthOf (listIn s is) n)) e
+
+  pub slot-len : (slot : ℕ) → (length is ≡ 255 → ⊥) → rowOfSlotAnswer s is slot ≡ Refused 1
+  unfolding rowOfSlotAnswer
+  slot-len slot n = rw (ne-eqb (length is) 255 n) (answer-bad 1 (rowIn s is slot) (λ e. omega arith))
+
+  module _ (len : length is ≡ 255) where
+    pub slot-zero : (slot : ℕ) → slot ≡ 0 → rowOfSlotAnswer s is slot ≡ Refused 11
+    unfolding rowOfSlotAnswer
+    slot-zero slot e = rw (eq-eqb (length is) 255 len, eq-eqb slot 0 e) (answer-bad 11 (rowIn s is slot) (λ q. omega arith))
+
+    module _ (slot : ℕ) (low : slot ≡ 0 → ⊥) where
+      pub slot-high : 255 < slot → rowOfSlotAnswer s is slot ≡ Refused 11
+      unfolding rowOfSlotAnswer
+      slot-high h = rw (eq-eqb (length is) 255 len, ne-eqb slot 0 low, lt-ltb 255 slot h) (answer-bad 11 (rowIn s is slot) (λ q. omega arith))
+
+      pub slot-bad : slot ≤ 255 → (issuesRefusal is ≡ 0 → ⊥) → rowOfSlotAnswer s is slot ≡ Refused (issuesRefusal is)
+      unfolding rowOfSlotAnswer issuesRefusal
+      slot-bad h n = ill (someOf isIll is) refl
+        where
+          ill : (b : Bool) → someOf isIll is ≡ b → rowOfSlotAnswer s is slot ≡ Refused (issuesRefusal is)
+          ill true e = rw (eq-eqb (length is) 255 len, ne-eqb slot 0 low, le-ltb 255 slot h, e) (answer-bad 17 (rowIn s is slot) (λ q. omega arith))
+          ill false e = absurd (n (rw (eq-eqb (length is) 255 len, e)))
+
+      pub slot-right : slot ≤ 255 → issuesRefusal is ≡ 0 → rowOfSlotAnswer s is slot ≡ answerOf 0 (rowIn s is slot)
+      unfolding rowOfSlotAnswer
+      slot-right h e = rw (eq-eqb (length is) 255 len, ne-eqb slot 0 low, le-ltb 255 slot h, issues-sound is e)

@@ -1,0 +1,2 @@
+pub mod UsableLaws
+pub mod AnswerLaws

@@ -1,0 +1,50 @@
+-- 01, What the ledger keeps: the list, by what a ledger holds, and what it answers.
+use Prim.Native.Nat.{ℕ}
+use mathlib.Core.Bool.{not, _||_}
+use mathlib.Core.List.{List, [], _∷_}
+use mathlib.Core.Option.{Option}
+use lib.Dec.{eqb, ltb}
+use lib.ListN.{length}
+use Rattle.bits.specs.Pick.{pick}
+use Rattle.bits.specs.Some.{some, first}
+use Rattle.store.specs.Walk.{rows, nthOf}
+use Rattle.list.specs.Issues.{isIll, issuesRefusal, issueOf}
+use Rattle.list.specs.Row.{rowHeld, answerOf}
+use Rattle.list.specs.declared.row.Row.{Row}
+use Rattle.list.specs.declared.row.RowAnswer.{RowAnswer}
+use Rattle.list.specs.declared.row.RowAnswer.the-variants.{Found, Refused as missed}
+use Rattle.list.specs.declared.rows.Count.{Count}
+use Rattle.list.specs.declared.rows.Count.the-variants.{Rows, Refused}
+
+-- the row of each slot, by what a ledger's bytes hold
+abbrev pub rowIn : List ℕ → List ℕ → ℕ → Option Row
+rowIn s is slot = rowHeld s (issueOf is slot) slot
+
+-- 01: the list: the rows of the slots that qualify, in rising slot order
+abbrev pub listIn : List ℕ → List ℕ → List Row
+listIn s is = rows (rowIn s is)
+
+-- 1 for a row, 0 for a refusal
+abbrev pub foundCount : RowAnswer → ℕ
+foundCount (Found r) = 1
+foundCount (missed n) = 0
+
+-- 01, Refusal numbers: the number of each count; rows are 0
+abbrev pub countNumber : Count → ℕ
+countNumber (Rows n) = 0
+countNumber (Refused n) = n
+
+-- 01: the number of rows; 1 and 17
+unfoldable pub countAnswer : List ℕ → List ℕ → Count
+countAnswer s is = pick (eqb (issuesRefusal is) 0) (Rows (length (listIn s is))) (Refused (issuesRefusal is))
+
+-- 01: the n-th row, from 1; 1, 17, and 18 for a position 0 or above the number of rows
+unfoldable pub rowAtAnswer : List ℕ → List ℕ → ℕ → RowAnswer
+rowAtAnswer s is n = answerOf (issuesRefusal is) (nthOf (listIn s is) n)
+
+-- 01: the row of a slot; 1, 11 for slot 0 or above 255, 17, 18 if it does not qualify
+unfoldable pub rowOfSlotAnswer : List ℕ → List ℕ → ℕ → RowAnswer
+rowOfSlotAnswer s is slot =
+    answerOf
+    (first ((1, not (eqb (length is) 255)) ∷ (11, eqb slot 0 || ltb 255 slot) ∷ (17, some isIll is) ∷ []))
+    (rowIn s is slot)

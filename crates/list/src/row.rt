@@ -1,0 +1,104 @@
+// One satellite's row: whether it qualifies, and what its row says.
+ghost use mathlib.Core.Path.{_≡_};
+ghost use lib.Dec.{eqb};
+ghost use lib.IntN.{negsuc};
+ghost use mathlib.Core.Option.{some, none};
+ghost use Rattle.mask.specs.Mask.{maskAt};
+ghost use Rattle.list.specs.Row.{isKnown, usable, agrees, rowFrom, rowHeld, answerOf};
+use form::HeldClock;
+use form::HeldOrbit;
+use records::slots::Slot;
+use records::slots::System;
+use records::ura::Ura;
+
+// A row of the list. Orbit values and clock in tenths of a millimetre.
+pub struct Row {
+    pub slot: Slot,
+    pub system: System,
+    pub number: u8,
+    pub iodn: u16,
+    pub corr: u8,
+    pub radial: i32,
+    pub along: i32,
+    pub cross: i32,
+    pub clock: i32,
+    pub ura: Ura,
+}
+
+// A row, or one of 01's refusal numbers.
+pub enum RowAnswer {
+    Found(Row),
+    Refused(u8),
+}
+
+// Whether a URA's code is not 0.
+fn is_known(u: Ura) -> bool
+    ensures { λ r. ⌜ r ≡ isKnown u ⌝ }
+{
+    match u {
+        Ura::Unknown => false,
+        Ura::Quarters(_) => true,
+        Ura::Above => true,
+    }
+}
+
+// Whether the URA is known and no raw value is unusable.
+fn is_usable(o: HeldOrbit, k: HeldClock) -> bool
+    ensures { λ r. ⌜ r ≡ usable o k ⌝ }
+{
+    let u = o.ura;
+    is_known(u) & (o.radial != -16384) & (o.along != -4096) & (o.cross != -4096) & (k.c0 != -16384)
+}
+
+// Whether orbit and clock are there, both carry the mask's IOD SSR, their IOD Corr are equal, and the issue is the IODN.
+fn do_agree(ssr: u8, o: HeldOrbit, k: HeldClock, issue: u16) -> bool
+    ensures { λ r. ⌜ r ≡ agrees ssr o k issue ⌝ }
+{
+    o.has & k.has & (o.ssr == ssr) & (k.ssr == ssr) & (o.corr == k.corr) & (o.iodn == issue)
+}
+
+// The row of a slot that qualifies.
+fn row_from(slot: u8, o: HeldOrbit, k: HeldClock) -> Row
+    ensures { λ r. ⌜ r ≡ rowFrom slot o k ⌝ }
+{
+    let s = records::slots::satellite_of(Slot(slot));
+    let system = s.system;
+    let ura = o.ura;
+    let radial = records::scale::times16(o.radial);
+    let along = records::scale::times64(o.along);
+    let cross = records::scale::times64(o.cross);
+    let clock = records::scale::times16(k.c0);
+    Row {
+        slot: Slot(slot),
+        system,
+        number: s.number,
+        iodn: o.iodn,
+        corr: o.corr,
+        radial,
+        along,
+        cross,
+        clock,
+        ura,
+    }
+}
+
+// The row of a slot by what the ledger holds and the slot's issue; refused 18 if it does not qualify.
+pub fn slot_row(ledger: &[u8], slot: u8, issue: u16) -> RowAnswer
+    ensures { λ r. ⌜ r ≡ answerOf 0 (rowHeld (now (ledger .entry)) issue slot) ⌝ }
+{
+    if !mask::has_mask(ledger) {
+        return RowAnswer::Refused(18);
+    }
+    if !mask::has_bit(ledger, Slot(slot)) {
+        return RowAnswer::Refused(18);
+    }
+    let o = form::get_orbit(ledger, slot);
+    let k = form::get_clock(ledger, slot);
+    if !do_agree(mask::mask_ssr(ledger), o, k, issue) {
+        return RowAnswer::Refused(18);
+    }
+    if !is_usable(o, k) {
+        return RowAnswer::Refused(18);
+    }
+    RowAnswer::Found(row_from(slot, o, k))
+}

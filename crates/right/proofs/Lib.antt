@@ -1,0 +1,3 @@
+pub mod ListRight
+pub mod AcceptedLaws
+pub mod Examples

@@ -1,0 +1,5 @@
+pub mod RawLaws
+pub mod FitLaws
+pub mod RoomLaws
+pub mod TakenLaws
+pub mod WriteLaws

@@ -1,0 +1,377 @@
+// Writing messages into a lent room of 61 bytes, by the rules of reading.
+ghost use mathlib.Core.Path.{_≡_};
+ghost use Prim.Native.Nat.{_+_, _^_, _<_, _≤_};
+ghost use lib.Dec.{ltb};
+ghost use lib.ListN.{length, replicate};
+ghost use lib.Signed.{mag};
+ghost use Rattle.bits.specs.Bits.{putsAt, putRows};
+ghost use Rattle.records.specs.Orbit.{orbitWidths};
+ghost use Rattle.records.specs.Clock.{clockWidths};
+ghost use Rattle.message.specs.Layout.{partWidths};
+ghost use Rattle.message.specs.Read.{verdictOf};
+ghost use Rattle.writing.specs.Fits.{eight, rawOr, clockVals, orbitVals, headVals, clockRow, orbitRow, fits, allFit, fitsAll};
+ghost use Rattle.writing.specs.Write.{headPut, maskWidths, maskRow, maskPut, clocksPut, orbitsPut, partsPut, checkPut, messageOf, contentRefusal, writeRefusal, written};
+use message::layout::Layout;
+use message::layout::layout_of;
+use message::layout::orbits_from;
+use message::parts::ClockPart;
+use message::parts::Contents;
+use message::parts::MaskPart;
+use message::parts::OrbitPart;
+use message::read::Verdict;
+use records::clock::Clock;
+use records::orbit::Orbit;
+
+// How far a number lies from 0, or from -1 downwards.
+fn size(z: i16) -> u64
+    ensures { λ r. ⌜ r ≡ mag z ⌝ }
+{
+    if z < 0 {
+        let m = -1 - z;
+        m as u64
+    } else {
+        z as u64
+    }
+}
+
+// The bits of a number whose highest weighs half; one bit too wide where it is out of range.
+fn raw_or(z: i16, half: u64) -> u64
+    requires { ⌜ half < 16385 ⌝ }
+    ensures { λ r. ⌜ r ≡ rawOr half z ⌝ }
+{
+    let m = size(z);
+    if m >= half {
+        return 2 * half;
+    }
+    if z < 0 { 2 * half - 1 - m } else { m }
+}
+
+// The widths of a clock record's fields.
+fn clock_widths(slotted: bool) -> [u8; 8]
+    ensures { λ r. ⌜ r ≡ eight (clockWidths slotted) ⌝ }
+{
+    if slotted {
+        [9, 3, 15, 0, 0, 0, 0, 0]
+    } else {
+        [0, 3, 15, 0, 0, 0, 0, 0]
+    }
+}
+
+// The values of a clock record's fields.
+fn clock_vals(k: Clock) -> [u64; 8]
+    ensures { λ r. ⌜ r ≡ eight (clockVals k) ⌝ }
+{
+    let c0 = raw_or(k.c0, 16384);
+    [k.slot as u64, k.corr as u64, c0, 0, 0, 0, 0, 0]
+}
+
+// The widths of an orbit record's fields.
+fn orbit_widths() -> [u8; 8]
+    ensures { λ r. ⌜ r ≡ orbitWidths ⌝ }
+{
+    [9, 10, 3, 15, 13, 13, 3, 3]
+}
+
+// The values of an orbit record's fields.
+fn orbit_vals(o: Orbit) -> [u64; 8]
+    ensures { λ r. ⌜ r ≡ orbitVals o ⌝ }
+{
+    let ura = o.ura;
+    let code = records::ura::code_of(ura);
+    let radial = raw_or(o.radial, 16384);
+    let along = raw_or(o.along, 4096);
+    let cross = raw_or(o.cross, 4096);
+    [
+        o.slot as u64,
+        o.iodn as u64,
+        o.corr as u64,
+        radial,
+        along,
+        cross,
+        (code / 8) as u64,
+        (code % 8) as u64,
+    ]
+}
+
+// The widths of a part's head: epoch, reserved, IOD SSR, IODP, sub-type or Slot_S.
+fn head_widths(iodp: u8, start: u8) -> [u8; 8]
+    ensures { λ r. ⌜ r ≡ eight (partWidths iodp start) ⌝ }
+{
+    [17, 4, 2, iodp, start, 0, 0, 0]
+}
+
+// The values of a part's head.
+fn head_vals(epoch: u32, ssr: u8, iodp: u8, start: u16) -> [u64; 8]
+    ensures { λ r. ⌜ r ≡ eight (headVals epoch ssr iodp start) ⌝ }
+{
+    [
+        epoch as u64,
+        0,
+        ssr as u64,
+        iodp as u64,
+        start as u64,
+        0,
+        0,
+        0,
+    ]
+}
+
+// Whether a value is within its width.
+fn one_fits(w: u8, v: u64) -> bool
+    ensures { λ r. ⌜ r ≡ ltb v (2 ^ w) ⌝ }
+{
+    if w > 63 {
+        return true;
+    }
+    v < (1u64 << w)
+}
+
+// Whether each value of a row is within its width.
+fn row_fits(ws: [u8; 8], vs: [u64; 8]) -> bool
+    ensures { λ r. ⌜ r ≡ fits ws vs ⌝ }
+{
+    let mut i: usize = 0;
+    while i < 8 {
+        if !one_fits(ws[i], vs[i]) {
+            return false;
+        }
+        i += 1;
+    }
+    true
+}
+
+// Whether the fields of each clock record are within their widths.
+fn clocks_fit(slotted: bool, ks: [Clock; 23]) -> bool
+    ensures { λ r. ⌜ r ≡ allFit (clockWidths slotted) (clockRow ks) 23 ⌝ }
+{
+    let ws = clock_widths(slotted);
+    let mut i: usize = 0;
+    while i < 23 {
+        let k = ks[i];
+        if !row_fits(ws, clock_vals(k)) {
+            return false;
+        }
+        i += 1;
+    }
+    true
+}
+
+// Whether the fields of each orbit record are within their widths.
+fn orbits_fit(os: [Orbit; 6]) -> bool
+    ensures { λ r. ⌜ r ≡ allFit orbitWidths (orbitRow os) 6 ⌝ }
+{
+    let ws = orbit_widths();
+    let mut i: usize = 0;
+    while i < 6 {
+        let o = os[i];
+        if !row_fits(ws, orbit_vals(o)) {
+            return false;
+        }
+        i += 1;
+    }
+    true
+}
+
+// Whether the fields of a part's head are within their widths.
+fn head_fits(p: u8, w: u8, epoch: u32, ssr: u8, iodp: u8, start: u16) -> bool
+    ensures { λ r. ⌜ r ≡ fits (partWidths p w) (headVals epoch ssr iodp start) ⌝ }
+{
+    row_fits(head_widths(p, w), head_vals(epoch, ssr, iodp, start))
+}
+
+// Whether every field of contents is within its width.
+fn all_fields_fit(c: Contents) -> bool
+    ensures { λ r. ⌜ r ≡ fitsAll c ⌝ }
+{
+    let m = c.mask;
+    let k = c.clock;
+    let o = c.orbit;
+    let l = layout_of(c.kind, k.count, o.count);
+    let ks = k.clocks;
+    let os = o.orbits;
+    let a = head_fits(4, 0, m.epoch, m.ssr, m.iodp, 0);
+    let b = head_fits(l.iodp, l.start, k.epoch, k.ssr, k.iodp, k.start);
+    let d = head_fits(0, 0, o.epoch, o.ssr, 0, 0);
+    let e = clocks_fit(l.slotted, ks);
+    let f = orbits_fit(os);
+    a & b & d & e & f
+}
+
+// The lowest number of 8 to 13 and 16 that applies to canonical contents; 0 if none does.
+fn content_refusal(c: Contents) -> u8
+    ensures { λ r. ⌜ r ≡ contentRefusal c ⌝ }
+{
+    let n = message::judge::refusal_of(c);
+    if n != 0 {
+        return n;
+    }
+    if all_fields_fit(c) { 0 } else { 16 }
+}
+
+// Every byte is made 0.
+fn clear(t: &mut [u8])
+    ensures { λ r. ⌜ now (t .exit) ≡ replicate (length (now (t .entry))) 0 ⌝ }
+{
+    let mut i: usize = 0;
+    while i < t.len() {
+        t[i] = 0;
+        i += 1;
+    }
+}
+
+// The type and, in types 6 and 7, the counts are put.
+fn put_head(room: &mut [u8], kind: u8, l: Layout)
+    ensures { λ r. ⌜ now (room .exit) ≡ headPut (now (room .entry)) kind l ⌝ }
+{
+    let wide: u8 = if l.head == 14 { 1 } else { 0 };
+    let ws = [6, 5 * wide, 3 * wide, 0, 0, 0, 0, 0];
+    let vs = [kind as u64, l.clocks as u64, l.orbits as u64, 0, 0, 0, 0, 0];
+    bits::puts(room, 0, ws, vs);
+}
+
+// The mask's bits are put from bit at on.
+fn put_bits(room: &mut [u8], at: u32, bits: [bool; 255])
+    requires { ⌜ at < 100000 ⌝ }
+    ensures { λ r. ⌜ now (room .exit) ≡ putRows (now (room .entry)) at maskWidths (maskRow bits) 255 ⌝ }
+{
+    let mut i: u32 = 0;
+    while i < 255 {
+        let b = bits[i as usize];
+        bits::put(room, (at + i) as usize, 1, store::flag(b) as u64);
+        i += 1;
+    }
+}
+
+// The head of a part is put from bit at on.
+fn put_part_head(room: &mut [u8], at: u32, p: u8, w: u8, epoch: u32, ssr: u8, iodp: u8, start: u16)
+    ensures { λ r. ⌜ now (room .exit) ≡ putsAt (now (room .entry)) at (partWidths p w) (headVals epoch ssr iodp start) ⌝ }
+{
+    bits::puts(
+        room,
+        at,
+        head_widths(p, w),
+        head_vals(epoch, ssr, iodp, start),
+    );
+}
+
+// The mask part is put where the type has one.
+fn put_mask(room: &mut [u8], l: Layout, m: MaskPart)
+    ensures { λ r. ⌜ now (room .exit) ≡ maskPut (now (room .entry)) l m ⌝ }
+{
+    if l.mask {
+        let at = l.head as u32;
+        let bits = m.bits;
+        put_part_head(room, at, 4, 0, m.epoch, m.ssr, m.iodp, 0);
+        put_bits(room, at + 27, bits);
+    }
+}
+
+// The first n clock records are put in a row from bit at on.
+fn put_clock_rows(room: &mut [u8], at: u32, slotted: bool, ks: [Clock; 23], n: u8)
+    requires { ⌜ (at < 100000) × (n ≤ 23) ⌝ }
+    ensures { λ r. ⌜ now (room .exit) ≡ putRows (now (room .entry)) at (clockWidths slotted) (clockRow ks) n ⌝ }
+{
+    let ws = clock_widths(slotted);
+    let each: u32 = if slotted { 27 } else { 18 };
+    let mut i: u32 = 0;
+    while i < n as u32 {
+        let k = ks[i as usize];
+        bits::puts(room, at + each * i, ws, clock_vals(k));
+        i += 1;
+    }
+}
+
+// The clock part is put where there is one.
+fn put_clocks(room: &mut [u8], l: Layout, k: ClockPart)
+    requires { ⌜ (l .clocks ≤ 23) × (l .iodp ≤ 4) × (l .start ≤ 9) ⌝ }
+    ensures { λ r. ⌜ now (room .exit) ≡ clocksPut (now (room .entry)) l k ⌝ }
+{
+    let n = l.clocks;
+    let at = l.head as u32;
+    let from = at + (23 + l.iodp as u32 + l.start as u32);
+    let ks = k.clocks;
+    if n != 0 {
+        put_part_head(room, at, l.iodp, l.start, k.epoch, k.ssr, k.iodp, k.start);
+        put_clock_rows(room, from, l.slotted, ks, n);
+    }
+}
+
+// The first n orbit records are put in a row from bit at on.
+fn put_orbit_rows(room: &mut [u8], at: u32, os: [Orbit; 6], n: u8)
+    requires { ⌜ (at < 100000) × (n ≤ 6) ⌝ }
+    ensures { λ r. ⌜ now (room .exit) ≡ putRows (now (room .entry)) at orbitWidths (orbitRow os) n ⌝ }
+{
+    let ws = orbit_widths();
+    let mut i: u32 = 0;
+    while i < n as u32 {
+        let o = os[i as usize];
+        bits::puts(room, at + 69 * i, ws, orbit_vals(o));
+        i += 1;
+    }
+}
+
+// The orbit part is put where there is one.
+fn put_orbits(room: &mut [u8], l: Layout, o: OrbitPart)
+    requires { ⌜ (l .orbits ≤ 6) × (l .clocks ≤ 23) × (l .iodp ≤ 4) × (l .start ≤ 9) ⌝ }
+    ensures { λ r. ⌜ now (room .exit) ≡ orbitsPut (now (room .entry)) l o ⌝ }
+{
+    let n = l.orbits;
+    let at = orbits_from(l);
+    let os = o.orbits;
+    if n != 0 {
+        put_part_head(room, at, 0, 0, o.epoch, o.ssr, 0, 0);
+        put_orbit_rows(room, at + 23, os, n);
+    }
+}
+
+// The type, the counts and the parts are put.
+fn put_parts(room: &mut [u8], c: Contents, l: Layout)
+    requires { ⌜ (l .orbits ≤ 6) × (l .clocks ≤ 23) × (l .iodp ≤ 4) × (l .start ≤ 9) ⌝ }
+    ensures { λ r. ⌜ now (room .exit) ≡ partsPut (now (room .entry)) c l ⌝ }
+{
+    let m = c.mask;
+    let k = c.clock;
+    let o = c.orbit;
+    put_head(room, c.kind, l);
+    put_mask(room, l, m);
+    put_clocks(room, l, k);
+    put_orbits(room, l, o);
+}
+
+// The check bits of the first 462 bits are put after them.
+fn put_check(room: &mut [u8])
+    ensures { λ r. ⌜ now (room .exit) ≡ checkPut (now (room .entry)) ⌝ }
+{
+    let check = check24::check(room, 0, 462);
+    bits::put(room, 462, 24, check as u64);
+}
+
+// The message is put into a room of 61 bytes: contents that no refusal applies to.
+fn put_message(room: &mut [u8], c: Contents)
+    requires { ⌜ (contentRefusal c ≡ 0) × (length (now room) ≡ 61) ⌝ }
+    ensures { λ r. ⌜ now (room .exit) ≡ messageOf c ⌝ }
+{
+    let k = c.clock;
+    let o = c.orbit;
+    let l = layout_of(c.kind, k.count, o.count);
+    clear(room);
+    put_parts(room, c, l);
+    put_check(room);
+}
+
+// A message is written into a lent room: refusals 1, 8 to 13, 16, lowest first. On a refusal the room is as it was.
+pub fn write(room: &mut [u8], c: Contents) -> Verdict
+    ensures verdict { λ r. ⌜ r ≡ verdictOf (writeRefusal (now (room .entry)) c) ⌝ }
+    ensures bytes { λ r. ⌜ now (room .exit) ≡ written (now (room .entry)) c ⌝ }
+{
+    if room.len() != 61 {
+        return Verdict::Refused(1);
+    }
+    let k = canon::canonical(c);
+    let n = content_refusal(k);
+    if n != 0 {
+        return Verdict::Refused(n);
+    }
+    put_message(room, k);
+    Verdict::Taken
+}
