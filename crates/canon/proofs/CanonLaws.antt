@@ -3,7 +3,7 @@ use mathlib.Core.Path.{_≡_, refl, sym, ap, _∙_}
 use mathlib.Core.Logic.{dite}
 use mathlib.Core.Bool.{Bool, true, false}
 use mathlib.Core.List.{List}
-use Prim.Native.Nat.{ℕ, _+_, _*_, _<_}
+use Prim.Native.Nat.{ℕ, _+_, _*_}
 use lib.Dec.{eqb, ltb}
 use lib.ListN.{getD}
 use native.Mathlib.Decide.{ℕ-discrete, decLt}
@@ -18,7 +18,7 @@ use Rattle.records.specs.Orbit.{blankOrbit, orbitAt}
 use Rattle.records.specs.Clock.{blankClock, clockAt}
 use Rattle.records.specs.declared.orbit.Orbit.{Orbit}
 use Rattle.records.specs.declared.clock.Clock.{Clock}
-use Rattle.message.specs.Parts.{clocksAt, orbitsAt, clockPartAt, orbitPartAt, noMask, noClocks, noOrbits, maskIn, clocksIn, orbitsIn, layoutAt, contentsAt}
+use Rattle.message.specs.Parts.{clocksAt, orbitsAt, noMask, noClocks, noOrbits, maskIn, clocksIn, orbitsIn, layoutAt, contentsAt}
 use Rattle.message.specs.declared.layout.Layout.{Layout}
 use Rattle.message.specs.declared.parts.ClockPart.{ClockPart}
 use Rattle.message.specs.declared.parts.OrbitPart.{OrbitPart}

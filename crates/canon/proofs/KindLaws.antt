@@ -2,14 +2,14 @@
 use mathlib.Core.Path.{_≡_, refl, sym}
 use mathlib.Core.Logic.{dite, _⊎_, inl, inr}
 use mathlib.Core.Bool.{true, true≢false}
-use Prim.Native.Nat.{ℕ, _+_, _*_, _≤_}
+use Prim.Native.Nat.{ℕ}
 use lib.Dec.{eqb}
 use native.Mathlib.Decide.{ℕ-discrete}
 use native.Mathlib.Omega.{arith}
 use borrow.Author.Tests.{ne-eqb}
-use Rattle.message.specs.Layout.{layoutOf, endOf}
+use Rattle.message.specs.Layout.{layoutOf}
 use Rattle.message.specs.declared.layout.Layout.{Layout}
-use Rattle.message.proofs.LayoutLaws.{pick-all, from-some}
+use Rattle.message.proofs.LayoutLaws.{pick-all}
 
 -- 01: the type alone, or the type and two counts, stand in front of the parts
 abbrev pub Headed : Layout → Type 0
@@ -49,3 +49,20 @@ layout-same kind a b numc numo h =
     dite (ℕ-discrete kind 7)
     (λ e. let q = (rw e at h) refl in rw (e, q .0, q .1))
     (λ m. rw (ne-eqb kind 6 n, ne-eqb kind 7 m)))
+
+-- 01, types 6 and 7: the counts are those that stand after the type
+abbrev pub Counted : ℕ → ℕ → Layout → Type 0
+Counted numc numo l = l .head ≡ 14 → (l .clocks ≡ numc) × (l .orbits ≡ numo)
+
+no-counts : _≡_ {A = ℕ} 6 14 → ⊥
+no-counts e = omega arith
+
+pub counted : (kind numc numo : ℕ) → Counted numc numo (layoutOf kind numc numo)
+unfolding layoutOf
+counted kind numc numo =
+    let P = Counted numc numo in
+    pick-all P (eqb kind 1) _ _ (λ e. absurd (no-counts e))
+    (pick-all P (eqb kind 2) _ _ (λ e. absurd (no-counts e))
+    (pick-all P (eqb kind 4) _ _ (λ e. absurd (no-counts e))
+    (pick-all P (eqb kind 6) _ _ (λ e. (refl, refl))
+    (pick-all P (eqb kind 7) _ _ (λ e. (refl, refl)) (λ e. absurd (no-counts e))))))

@@ -1,6 +1,17 @@
-// Runs 01's examples of the field and the check, and the code word of 000's appendix.
+// Runs 01's examples, of the field, the check, the code word of 000's appendix, messages, and ledgers that take
+// frames. The frames are files, one for each case; tests/outside/make_examples.c says what each must give, and why.
 ghost use Prim.Native.Nat.{_<_};
+
+mod ask;
+mod cases;
+mod say;
+
 use libc::STDOUT_FILENO;
+use message::read::Verdict;
+use say::say;
+use say::say_number;
+use say::say_ura;
+use say::verdict_number;
 
 // 000, appendix: the code word of the encoding example, 162 symbols in the print's order, nine to a row.
 const WORD: [[u8; 9]; 18] = [
@@ -67,16 +78,6 @@ fn caught_count() -> u64 {
     n
 }
 
-// Writes bytes to standard output.
-fn say(text: &[u8]) {
-    io::write_all(STDOUT_FILENO, text);
-}
-
-// Writes a number to standard output.
-fn say_number(n: u64) {
-    io::print_decimal(STDOUT_FILENO, n);
-}
-
 // Writes a product of the field.
 fn say_product(a: u8, b: u8) {
     say(b"field: ");
@@ -115,8 +116,75 @@ fn say_caught() {
     say(b" of 162\n");
 }
 
-// The products, the checks, and the appendix's word.
-fn main() {
+// Writes the accuracy index of a code.
+fn say_code(code: u8) {
+    say(b"URA code ");
+    say_number(code as u64);
+    say(b": ");
+    say_ura(records::ura::ura_of(code));
+    say(b"\n");
+}
+
+// Writes the bit after the last of a message with these counts.
+fn say_end(kind: u8, numc: u8, numo: u8) {
+    say(b"type ");
+    say_number(kind as u64);
+    say(b", ");
+    say_number(numc as u64);
+    say(b" and ");
+    say_number(numo as u64);
+    say(b", ends at ");
+    say_number(message::layout::end_of(message::layout::layout_of(kind, numc, numo)) as u64);
+    say(b"\n");
+}
+
+// Writes the answer to a message.
+fn say_read(text: &[u8], message: &[u8]) {
+    let reading = message::read::read(message);
+    let v = reading.verdict;
+    say(text);
+    say_number(verdict_number(v));
+    say(b"\n");
+}
+
+// Writes the answer to a message of zero bytes but for one bit.
+fn say_read_bit(text: &[u8], at: usize) {
+    let mut message = [0u8; 61];
+    bits::put(&mut message, at, 1, 1);
+    say_read(text, &message);
+}
+
+// Whether a ledger can be opened for a PRN.
+fn opens(prn: u8) -> bool {
+    let mut ledger = [0u8; 9440];
+    match ledger::open::open(&mut ledger, prn) {
+        Verdict::Taken => true,
+        Verdict::Refused(_) => false,
+    }
+}
+
+// Writes the PRN if a ledger can be opened for it.
+fn say_if_opens(prn: u8) {
+    if opens(prn) {
+        say(b" ");
+        say_number(prn as u64);
+    }
+}
+
+// Writes each PRN that a ledger can be opened for.
+fn say_opened() {
+    say(b"ledgers opened:");
+    let mut prn: u8 = 0;
+    while prn < 255 {
+        say_if_opens(prn);
+        prn += 1;
+    }
+    say_if_opens(255);
+    say(b"\n");
+}
+
+// The field, the check and the parity.
+fn say_codes() {
     say_product(2, 32);
     say_product(2, 63);
     say_product(32, 32);
@@ -124,4 +192,39 @@ fn main() {
     say_check(b"check with only the last bit set: ", 1);
     say_parity();
     say_caught();
+}
+
+// The accuracy indices and the ends.
+fn say_fields() {
+    say_code(0);
+    say_code(1);
+    say_code(19);
+    say_code(62);
+    say_code(63);
+    say_end(6, 22, 0);
+    say_end(6, 2, 5);
+    say_end(6, 3, 5);
+    say_end(7, 15, 0);
+    say_end(7, 2, 5);
+    say_end(7, 3, 5);
+}
+
+// The messages that are nearly all zero.
+fn say_messages() {
+    let zeros = [0u8; 61];
+    say_read(b"message of 61 zero bytes: ", &zeros);
+    say_read_bit(b"message with only bit 461 set: ", 461);
+    say_read_bit(b"message with only bit 487 set: ", 487);
+    say_read(b"message of 60 zero bytes: ", &zeros[..60]);
+}
+
+// Codes, fields, messages, and the cases.
+fn main() {
+    say_codes();
+    say_fields();
+    say_messages();
+    say_opened();
+    cases::refusals();
+    cases::the_list();
+    ask::asked();
 }

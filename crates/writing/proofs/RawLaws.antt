@@ -9,7 +9,7 @@ use lib.IntN.{ℤ, pos, negsuc}
 use lib.Signed.{mag, ltZ}
 use borrow.Author.Tests.{lt-ltb, le-ltb}
 use Rattle.records.specs.Signed.{signedHalf, rawHalf}
-use Rattle.records.proofs.SignedLaws.{signed-raw, not-neg}
+use Rattle.records.proofs.SignedLaws.{signed-raw, raw-signed, raw-lt, signed-lt, not-neg}
 use Rattle.writing.specs.Fits.{rawOr}
 
 -- a number that is not negative is its own bits
@@ -17,11 +17,25 @@ pub pos-raw : (half : ℕ) (z : ℤ) → ltZ z (pos 0) ≡ false → rawHalf hal
 pos-raw half (pos x) e = refl
 pos-raw half (negsuc m) e = absurd (not-neg m e)
 
--- bits that fit say the number
-pub raw-back : (half : ℕ) (z : ℤ) → rawOr half z < 2 * half → signedHalf half (rawOr half z) ≡ z
-raw-back half z h =
+-- a number within its range has bits that fit
+pub raw-or-lt : (half : ℕ) (z : ℤ) → mag z < half → rawOr half z < 2 * half
+raw-or-lt half z h = rw (lt-ltb (mag z) half h) (raw-lt half z h)
+
+-- bits that fit are those of a number within its range
+pub raw-or-mag : (half : ℕ) (z : ℤ) → rawOr half z < 2 * half → mag z < half
+raw-or-mag half z h =
     dite (decLt (mag z) half)
-    (λ l. rw (lt-ltb (mag z) half l) (signed-raw half z l))
+    (λ l. l)
     (λ n.
     let g : 2 * half < 2 * half = rw (le-ltb (mag z) half (omega arith)) at h in
     absurd (let y : ⊥ = omega arith in y))
+
+-- and say the number
+pub raw-back : (half : ℕ) (z : ℤ) → rawOr half z < 2 * half → signedHalf half (rawOr half z) ≡ z
+raw-back half z h =
+    let l : mag z < half = raw-or-mag half z h in
+    rw (lt-ltb (mag z) half l) (signed-raw half z l)
+
+-- the bits that were read are those that are written
+pub raw-or-read : (half x : ℕ) → x < 2 * half → rawOr half (signedHalf half x) ≡ x
+raw-or-read half x h = rw (lt-ltb (mag (signedHalf half x)) half (signed-lt half x h)) (raw-signed half x h)

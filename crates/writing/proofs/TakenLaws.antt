@@ -86,7 +86,7 @@ end-some l n = rw (ne-eqb _ _ n)
 few-orbits : (l : Layout) → 6 ≤ l .head → endOf l ≤ 462 → l .orbits ≤ 6
 few-orbits l h g = dite (ℕ-discrete (l .orbits) 0) (λ z. omega arith) (λ n. omega (arith, end-some l n))
 
-pub six : (c : Contents) → 6 ≤ layoutFor c .head
+six : (c : Contents) → 6 ≤ layoutFor c .head
 six c = ⊎-elim (λ e. omega arith) (λ e. omega arith) (headed (c .kind) (c .clock .count) (c .orbit .count))
 
 -- 01, 9: what ends within the message has at most 23 clocks and 6 orbits

@@ -1,5 +1,5 @@
 -- 01, Message fields, in order: what writing leaves in the room. Reserved bits, blank records, absent parts and the last two bits are zero.
-use Prim.Native.Nat.{ℕ, _+_, _*_}
+use Prim.Native.Nat.{ℕ, _+_}
 use mathlib.Core.Bool.{Bool, false, not}
 use mathlib.Core.List.{List, [], _∷_}
 use lib.Dec.{eqb}

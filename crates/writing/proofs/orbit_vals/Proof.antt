@@ -2,7 +2,6 @@ use borrow.Author.Needs.{needs}
 use mathlib.Core.Path.{_≡_}
 use mir.Syntax.{w16}
 use mir.Val.{toZ, ofZ}
-use mir.Facts.{toZ-ofZ}
 use Rattle.writing.proofs.orbit_vals.Statement.{statement}
 use Rattle.writing.proofs.orbit_vals.Tie as tie
 

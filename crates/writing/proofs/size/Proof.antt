@@ -4,10 +4,9 @@ use mir.Facts.{toZ-ofZ, toZ-pos}
 use lib.Signed.{mag, ltZ, nonNeg}
 use lib.Dec.{T}
 use lib.IntN.{ℤ, pos, negsuc, _-ℤ_, natAbs}
-use mathlib.Core.Bool.{Bool, true, false}
+use mathlib.Core.Bool.{true, false}
 use Rattle.records.proofs.SignedLaws.{neg-flip, not-neg}
 use native.Mathlib.Omega.{arith}
-use Prim.Native.Nat.{ℕ}
 use mathlib.Core.Path.{_≡_, ap, _∙_, refl, subst}
 use Rattle.writing.proofs.size.Statement.{statement}
 use Rattle.writing.proofs.size.Tie as tie

@@ -1,0 +1,103 @@
+-- What is written is a message, and what reading takes is one.
+use mathlib.Core.Path.{_≡_, refl, sym, ap, _∙_}
+use mathlib.Core.Logic.{inr}
+use mathlib.Core.Bool.{true, false, not}
+use mathlib.Core.List.{List}
+use Prim.Native.Nat.{ℕ, _+_}
+use lib.Dec.{eqb}
+use lib.ListN.{length, replicate, length-replicate}
+use native.Mathlib.Omega.{arith}
+use borrow.Author.Tests.{eq-eqb}
+use Rattle.bits.specs.Bits.{bitAt, fieldAt}
+use Rattle.bits.proofs.TableLaws.{length-table}
+use Rattle.check24.specs.Check.{checkOk}
+use Rattle.message.specs.Parts.{noMask, maskBitAt, maskBitsAt, maskPartAt, maskIn, layoutAt, contentsAt}
+use Rattle.message.specs.Judge.{refusalOf}
+use Rattle.message.specs.Read.{numberOf, answer, readMessage}
+use Rattle.message.specs.declared.parts.MaskPart.{MaskPart}
+use Rattle.message.specs.declared.parts.Contents.{Contents}
+use Rattle.message.specs.declared.read.Verdict.the-variants.{Taken}
+use Rattle.message.proofs.LayoutLaws.{pick-all}
+use Rattle.message.proofs.ReadLaws.{number-back, number-last}
+use Rattle.canon.specs.Canon.{layoutFor, canon}
+use Rattle.canon.proofs.CanonLaws.{canon-twice}
+use Rattle.writing.specs.Fits.{fitsAll}
+use Rattle.writing.specs.Write.{partsPut, checkPut, messageOf, contentRefusal, written}
+use Rattle.writing.proofs.BesideLaws.{Beside, beside-field}
+use Rattle.writing.proofs.TakenLaws.{first-not, content-taken}
+use Rattle.writing.proofs.CheckBack.{check-beside, check-right}
+use Rattle.writing.proofs.MessageBack.{contents-back, parts-beside}
+
+-- t is a message that says c: 61 bytes, the last two bits zero, the check right, the contents within 8 to 13
+pub record Message (t : List ℕ) (c : Contents) : Type 0 where
+  pub long : length t ≡ 61
+  pub last : fieldAt t 486 2 ≡ 0
+  pub check : checkOk t 0 462 ≡ true
+  pub contents : contentsAt t 0 ≡ c
+  pub judged : refusalOf c ≡ 0
+
+-- reading it gives its contents
+pub message-taken : (t : List ℕ) (c : Contents) → Message t c → readMessage t ≡ answer 0 c
+unfolding readMessage
+message-taken t c r = rw (eq-eqb _ _ (r .long), eq-eqb _ _ (r .last), r .check, r .contents, eq-eqb _ _ (r .judged))
+
+-- the canonical form has a mask of 255 bits
+mask-long : (c : Contents) → length (c .mask .bits) ≡ 255 → length (canon c .mask .bits) ≡ 255
+unfolding canon noMask
+mask-long c e = pick-all (λ (m : MaskPart). length (m .bits) ≡ 255) (layoutFor c .mask) (c .mask) noMask e (length-table (λ (i : ℕ). false) 255)
+
+-- canonical contents that no refusal applies to, put into a room whose last two bits are zero
+put-message : (s : List ℕ) (c : Contents) → length s ≡ 61 → fieldAt s 486 2 ≡ 0 → length (c .mask .bits) ≡ 255 → refusalOf (canon c) ≡ 0 → fitsAll (canon c) ≡ true → Message (checkPut (partsPut s (canon c) (layoutFor (canon c)))) (canon c)
+put-message s c len last bits ok fit =
+    let d = canon c in
+    let long = mask-long c bits in
+    let p = partsPut s d (layoutFor d) in
+    let b : Beside 0 462 s p = parts-beside s d len long ok fit in
+    let k : Beside 462 486 p (checkPut p) = check-beside p in
+    record {
+      long = k .long ∙ b .long ∙ len;
+      last =
+          beside-field 462 486 p (checkPut p) 486 2 k (inr (omega arith))
+          ∙ beside-field 0 462 s p 486 2 b (inr (omega arith))
+          ∙ last;
+      check = check-right p (b .long ∙ len);
+      contents = contents-back s d len long ok fit ∙ canon-twice c;
+      judged = ok;
+    }
+
+zeros-last : fieldAt (replicate 61 0) 486 2 ≡ 0
+unfolding fieldAt bitAt
+zeros-last = refl
+
+pub message-read : (c : Contents) → length (c .mask .bits) ≡ 255 → contentRefusal (canon c) ≡ 0 → Message (messageOf (canon c)) (canon c)
+unfolding messageOf
+message-read c bits e =
+    let h = content-taken (canon c) e in
+    put-message (replicate 61 0) c (length-replicate {A = ℕ} 61 0) zeros-last bits (h .0) (h .1)
+
+-- ---- what was read
+pub read-mask-long : (s : List ℕ) → length (contentsAt s 0 .mask .bits) ≡ 255
+unfolding contentsAt maskIn noMask maskBitsAt
+read-mask-long s =
+    let l = layoutAt s 0 in
+    pick-all (λ (m : MaskPart). length (m .bits) ≡ 255) (l .mask) (maskPartAt s (0 + l .head)) noMask
+    (length-table (maskBitAt s (0 + l .head + 27)) 255)
+    (length-table (λ (i : ℕ). false) 255)
+
+-- an answer that takes has the number 0
+answer-taken : (n : ℕ) (c : Contents) → answer n c .verdict ≡ Taken → n ≡ 0
+unfolding answer
+answer-taken n c e = sym (number-back n) ∙ ap numberOf e
+
+pub reading-answer : (s : List ℕ) → readMessage s .verdict ≡ Taken → readMessage s ≡ answer 0 (contentsAt s 0)
+unfolding readMessage
+reading-answer s e = ap (λ (n : ℕ). answer n (contentsAt s 0)) (answer-taken _ (contentsAt s 0) e)
+
+-- so nothing applies to what was read
+pub reading-judged : (s : List ℕ) → readMessage s .verdict ≡ Taken → refusalOf (contentsAt s 0) ≡ 0
+unfolding readMessage
+reading-judged s e =
+    let n1 = first-not 1 _ (not (eqb (length s) 61)) (λ q. omega arith) (answer-taken _ (contentsAt s 0) e) in
+    let n2 = first-not 2 _ (not (eqb (fieldAt s 486 2) 0)) (λ q. omega arith) (n1 .1) in
+    let n7 = first-not 7 _ (not (checkOk s 0 462)) (λ q. omega arith) (n2 .1) in
+    sym (number-last (refusalOf (contentsAt s 0))) ∙ n7 .1

@@ -1,0 +1,66 @@
+-- THE ROUND TRIP, both ways, stated over the field rules of 01.
+use mathlib.Core.Path.{_≡_, sym, ap, _∙_}
+use mathlib.Core.Logic.{_≢_, _⊎_}
+use mathlib.Core.List.{List}
+use Prim.Native.Nat.{ℕ, _<_}
+use lib.ListN.{length}
+use Rattle.bits.specs.Bits.{bitAt}
+use Rattle.message.specs.Parts.{contentsAt}
+use Rattle.message.specs.Read.{answer, readMessage}
+use Rattle.message.specs.declared.parts.Contents.{Contents}
+use Rattle.message.specs.declared.read.Reading.{Reading}
+use Rattle.message.specs.declared.read.Verdict.the-variants.{Taken}
+use Rattle.canon.specs.Canon.{canon}
+use Rattle.canon.proofs.CanonLaws.{canon-read, layout-read}
+use Rattle.writing.specs.Write.{contentRefusal, writeRefusal, written}
+use Rattle.writing.proofs.TakenLaws.{content-ok, judged}
+use Rattle.writing.proofs.WriteLaws.{refuses-content, write-taken, written-taken}
+use Rattle.writing.proofs.ReadSaid.{read-fits}
+use Rattle.writing.specs.Limits.{Limits}
+use Rattle.writing.proofs.LimitLaws.{limits-taken, taken-limits}
+use Rattle.writing.proofs.MessageRead.{Message, message-taken, message-read, read-mask-long, reading-answer, reading-judged}
+use Rattle.writing.proofs.UnderLaws.{under-message}
+
+-- contents are taken, into any room of 61 bytes, exactly if they are within their limits
+pub taken-exactly : (room : List ℕ) (c : Contents) → length room ≡ 61 → (Limits (canon c) → writeRefusal room c ≡ 0) × (writeRefusal room c ≡ 0 → Limits (canon c))
+taken-exactly room c long = (limits-taken room c long, taken-limits room c)
+
+-- what is written, where nothing is refused, is a message that says the contents in canonical form
+pub written-message : (room : List ℕ) (c : Contents) → length (c .mask .bits) ≡ 255 → writeRefusal room c ≡ 0 → Message (written room c) (canon c)
+written-message room c bits e = rw (written-taken room c e) (message-read c bits (write-taken room c e .1))
+
+-- 01, demand 2: reading what was written gives the contents, with blank records and absent parts as zeros
+pub round-trip : (room : List ℕ) (c : Contents) → length (c .mask .bits) ≡ 255 → writeRefusal room c ≡ 0 → readMessage (written room c) ≡ answer 0 (canon c)
+round-trip room c bits e = message-taken (written room c) (canon c) (written-message room c bits e)
+
+-- what the writer takes, the reader takes
+pub reader-takes : (room : List ℕ) (c : Contents) → length (c .mask .bits) ≡ 255 → writeRefusal room c ≡ 0 → readMessage (written room c) .verdict ≡ Taken
+unfolding answer
+reader-takes room c bits e = ap (λ (r : Reading). r .verdict) (round-trip room c bits e)
+
+-- two contents of different canonical form give different messages
+pub messages-differ : (room room′ : List ℕ) (c d : Contents) → length (c .mask .bits) ≡ 255 → length (d .mask .bits) ≡ 255 → writeRefusal room c ≡ 0 → writeRefusal room′ d ≡ 0 → canon c ≢ canon d → written room c ≢ written room′ d
+messages-differ room room′ c d p q e f n w =
+    n (sym (written-message room c p e .contents) ∙ ap (λ (t : List ℕ). contentsAt t 0) w ∙ written-message room′ d q f .contents)
+
+-- ---- the other way
+-- what was read from an accepted message is within its limits, and writing it is taken
+pub reading-written : (s room : List ℕ) → length room ≡ 61 → readMessage s .verdict ≡ Taken → writeRefusal room (contentsAt s 0) ≡ 0
+reading-written s room long e =
+    refuses-content room (contentsAt s 0) long
+    ∙ ap contentRefusal (canon-read s 0)
+    ∙ content-ok (contentsAt s 0) (reading-judged s e) (read-fits s 0)
+
+-- reading what was written gives again what was read
+pub read-again : (s room : List ℕ) → length room ≡ 61 → readMessage s .verdict ≡ Taken → readMessage (written room (contentsAt s 0)) ≡ readMessage s
+read-again s room long e =
+    round-trip room (contentsAt s 0) (read-mask-long s) (reading-written s room long e)
+    ∙ ap (answer 0) (canon-read s 0)
+    ∙ sym (reading-answer s e)
+
+-- and each of its first 462 bits is that of the message read, or 0: reserved bits and blank records are zeroed
+pub rewritten : (s room : List ℕ) → length room ≡ 61 → readMessage s .verdict ≡ Taken → (j : ℕ) → j < 462 → (bitAt (written room (contentsAt s 0)) j ≡ bitAt s j) ⊎ (bitAt (written room (contentsAt s 0)) j ≡ 0)
+rewritten s room long e j h =
+    let c = contentsAt s 0 in
+    rw (written-taken room c (reading-written s room long e), canon-read s 0)
+    (under-message s (rw (layout-read s 0) at (judged c (reading-judged s e) .1)) j h)

@@ -1,0 +1,62 @@
+-- Where each step of writing writes: all beside it is left as it was.
+use mathlib.Core.Path.{_≡_, refl, ap}
+use mathlib.Core.Logic.{dite, inl, inr}
+use mathlib.Core.List.{List, [], _∷_}
+use Prim.Native.Nat.{ℕ, _+_, _*_}
+use native.Mathlib.Decide.{ℕ-discrete}
+use native.Mathlib.Omega.{arith}
+use borrow.Author.Tests.{eq-eqb, ne-eqb}
+use Rattle.bits.specs.Pick.{pick}
+use Rattle.bits.specs.Bits.{putsAt, putRows, total}
+use Rattle.records.specs.Orbit.{orbitWidths}
+use Rattle.records.specs.Clock.{clockWidths}
+use Rattle.message.specs.Layout.{partWidths, orbitsFrom, endOf}
+use Rattle.message.specs.declared.layout.Layout.{Layout}
+use Rattle.message.specs.declared.parts.MaskPart.{MaskPart}
+use Rattle.message.specs.declared.parts.ClockPart.{ClockPart}
+use Rattle.message.specs.declared.parts.OrbitPart.{OrbitPart}
+use Rattle.message.proofs.LayoutLaws.{clock-total}
+use Rattle.canon.proofs.KindLaws.{Headed}
+use Rattle.writing.specs.Fits.{clockRow, orbitRow}
+use Rattle.writing.specs.Write.{headPut, maskWidths, maskRow, maskPut, clocksPut, orbitsPut}
+use Rattle.writing.proofs.BesideLaws.{Beside, beside-same, beside-then, beside-wide, beside-pick, puts-beside, rows-beside}
+
+pub head-beside : (s : List ℕ) (kind : ℕ) (l : Layout) → Headed l → Beside 0 (l .head) s (headPut s kind l)
+unfolding headPut
+head-beside s kind l (inl e) = rw e (puts-beside s 0 (6 ∷ 0 ∷ 0 ∷ []) (kind ∷ l .clocks ∷ l .orbits ∷ []))
+head-beside s kind l (inr e) = rw e (puts-beside s 0 (6 ∷ 5 ∷ 3 ∷ []) (kind ∷ l .clocks ∷ l .orbits ∷ []))
+
+-- a head and the records after it
+part-beside : (s : List ℕ) (at from hi : ℕ) (hs vs ws : List ℕ) (f : ℕ → List ℕ) (n : ℕ) → from ≡ at + total hs → hi ≡ from + total ws * n → Beside at hi s (putRows (putsAt s at hs vs) from ws f n)
+part-beside s at from hi hs vs ws f n b e =
+    let p = putsAt s at hs vs in
+    beside-then at hi s p (putRows p from ws f n)
+    (beside-wide at (at + total hs) at hi s p (omega arith) (omega arith) (puts-beside s at hs vs))
+    (beside-wide from (from + total ws * n) at hi p (putRows p from ws f n) (omega arith) (omega arith) (rows-beside p from ws f n))
+
+pub mask-beside : (s : List ℕ) (l : Layout) (m : MaskPart) → Beside (l .head) (l .head + 27 + 255) s (maskPut s l m)
+unfolding maskPut
+mask-beside s l m =
+    beside-pick (l .head) (l .head + 27 + 255) (l .mask) s _ s
+    (part-beside s (l .head) (l .head + 27) (l .head + 27 + 255) (partWidths 4 0) _ maskWidths (maskRow (m .bits)) 255 refl refl)
+    (beside-same (l .head) (l .head + 27 + 255) s)
+
+pub clocks-beside : (s : List ℕ) (l : Layout) (k : ClockPart) → Beside (l .head) (orbitsFrom l) s (clocksPut s l k)
+unfolding clocksPut
+clocks-beside s l k =
+    dite (ℕ-discrete (l .clocks) 0)
+    (λ e. rw (eq-eqb _ _ e) (beside-same (l .head) _ s))
+    (λ n.
+    let f = l .head + (23 + l .iodp + l .start) in
+    let t : f + total (clockWidths (l .slotted)) * l .clocks ≡ f + pick (l .slotted) 27 18 * l .clocks = ap (λ (w : ℕ). f + w * l .clocks) (clock-total (l .slotted)) in
+    rw (ne-eqb (l .clocks) 0 n)
+    (part-beside s (l .head) f _ (partWidths (l .iodp) (l .start)) _ (clockWidths (l .slotted)) (clockRow (k .clocks)) (l .clocks) (omega arith) (omega arith)))
+
+pub orbits-beside : (s : List ℕ) (l : Layout) (o : OrbitPart) → Beside (orbitsFrom l) (endOf l) s (orbitsPut s l o)
+unfolding orbitsPut
+orbits-beside s l o =
+    dite (ℕ-discrete (l .orbits) 0)
+    (λ e. rw (eq-eqb _ _ e) (beside-same (orbitsFrom l) _ s))
+    (λ n.
+    rw (ne-eqb (l .orbits) 0 n)
+    (part-beside s (orbitsFrom l) (orbitsFrom l + 23) _ (partWidths 0 0) _ orbitWidths (orbitRow (o .orbits)) (l .orbits) refl (omega arith)))
