@@ -1,0 +1,58 @@
+// Files by name; - is standard input.
+use libc::STDIN_FILENO;
+
+// Opens a file for reading; negative where it cannot be opened, and it has been said why.
+pub fn open_named(name: &[u8]) -> i32 {
+    if text::words::same(name, b"-") {
+        return STDIN_FILENO;
+    }
+    let fd = os::open_read(name);
+    if fd < 0 {
+        text::say::say_errno(b"night", name);
+    }
+    fd
+}
+
+// Closes what open_named opened.
+pub fn close_named(fd: i32) {
+    if fd != STDIN_FILENO {
+        libc::close(fd);
+    }
+}
+
+// Whether the file of a path that ends in 0 may be read.
+fn may_read(path: [u8; 4096]) -> bool {
+    let mut p = path;
+    p[4095] = 0;
+    libc::access(&p, libc::R_OK) == 0
+}
+
+// Whether the file of argument i may be read; where not, it has been said why.
+fn is_readable(i: usize) -> bool {
+    let mut path = io::buffer();
+    let n = os::arg(i, &mut path);
+    if os::errno() != 0 {
+        text::say::say_errno(b"night", b"argument");
+        return false;
+    }
+    if text::words::same(&path[..n], b"-") {
+        return true;
+    }
+    if !may_read(path) {
+        text::say::say_errno(b"night", &path[..n]);
+        return false;
+    }
+    true
+}
+
+// Whether each file from argument i on may be read.
+pub fn all_readable(i: usize, count: usize) -> bool {
+    let mut k = i;
+    while k < count {
+        if !is_readable(k) {
+            return false;
+        }
+        k += 1;
+    }
+    true
+}

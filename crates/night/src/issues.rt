@@ -1,0 +1,236 @@
+// The issues of the broadcast messages, from a text file: a line such as C19 37 for each satellite.
+ghost use Rattle.text.specs.Lines.{Inside};
+use crate::files::close_named;
+use crate::files::open_named;
+use text::lines::Lines;
+use text::lines::Step;
+use text::lines::next_line;
+use text::say::say_where;
+use text::words::Number;
+use text::words::next_word;
+use text::words::number_of;
+
+// What a line gives: nothing, a slot's issue, or a fault by its number.
+enum Given {
+    Nothing,
+    Issue(u8, u16),
+    Fault(u8),
+}
+
+// The slot of a satellite by its letter and number; 0 where there is none.
+fn slot_of(letter: u8, number: u32) -> u8 {
+    if number == 0 {
+        return 0;
+    }
+    if letter == b'C' {
+        return if number > 63 { 0 } else { number as u8 };
+    }
+    if number > 37 {
+        return 0;
+    }
+    let n = number as u8;
+    match letter {
+        b'G' => 63 + n,
+        b'E' => 100 + n,
+        b'R' => 137 + n,
+        _ => 0,
+    }
+}
+
+// The slot of a satellite as RINEX names it, such as C19; 0 where there is none.
+fn satellite(w: &[u8]) -> u8 {
+    if w.len() != 3 {
+        return 0;
+    }
+    let n = number_of(&w[1..]);
+    let Number::Value(x) = n else {
+        return 0;
+    };
+    slot_of(w[0], x)
+}
+
+// The issue that the last word of a line says, from a place on.
+fn issue_at(s: &[u8], at: usize, slot: u8) -> Given {
+    let w = next_word(s, at);
+    let a = w.from;
+    let b = w.to;
+    let n = number_of(&s[a..b]);
+    let Number::Value(x) = n else {
+        return Given::Fault(2);
+    };
+    if x > 1023 {
+        return Given::Fault(2);
+    }
+    let z = next_word(s, b);
+    if z.from != z.to {
+        return Given::Fault(3);
+    }
+    Given::Issue(slot, x as u16)
+}
+
+// What a line gives.
+fn line_gives(s: &[u8]) -> Given {
+    let w = next_word(s, 0);
+    let a = w.from;
+    let b = w.to;
+    if a == b {
+        return Given::Nothing;
+    }
+    if text::words::starts(&s[a..b], b'#') {
+        return Given::Nothing;
+    }
+    let slot = satellite(&s[a..b]);
+    if slot == 0 {
+        return Given::Fault(1);
+    }
+    issue_at(s, b, slot)
+}
+
+// A fault of a line, in words.
+fn say_fault(name: &[u8], number: u64, fault: u8) {
+    if fault == 1 {
+        say_where(
+            b"night",
+            name,
+            b"line",
+            number,
+            b"expected a satellite: C01 to C63, or G, E or R with 01 to 37",
+        );
+        return;
+    }
+    if fault == 2 {
+        say_where(
+            b"night",
+            name,
+            b"line",
+            number,
+            b"expected an issue, 0 to 1023",
+        );
+        return;
+    }
+    say_where(
+        b"night",
+        name,
+        b"line",
+        number,
+        b"expected the end of the line after the issue",
+    );
+}
+
+// A satellite is named a second time.
+fn say_twice(name: &[u8], number: u64, before: u64) {
+    let mut room = [0u8; 80];
+    let a = text::put::put_bytes(&mut room, 0, b"satellite named before, on line ");
+    let n = text::put::put_number(&mut room, a, before);
+    say_where(b"night", name, b"line", number, &room[..n]);
+}
+
+// A slot's issue is put on the list, with the line that gave it; false where the slot has one already.
+fn put_issue(
+    name: &[u8],
+    number: u64,
+    slot: u8,
+    issue: u16,
+    issues: &mut [u16; 255],
+    seen: &mut [u64; 255],
+) -> bool {
+    if slot == 0 {
+        return false;
+    }
+    let i = slot as usize - 1;
+    let before = seen[i];
+    if before != 0 {
+        say_twice(name, number, before);
+        return false;
+    }
+    seen[i] = number;
+    issues[i] = issue;
+    true
+}
+
+// A line is taken; false where something is wrong with it, and it has been said what.
+fn take_line(
+    name: &[u8],
+    number: u64,
+    s: &[u8],
+    issues: &mut [u16; 255],
+    seen: &mut [u64; 255],
+) -> bool {
+    let g = line_gives(s);
+    match g {
+        Given::Nothing => true,
+        Given::Issue(slot, issue) => put_issue(name, number, slot, issue, issues, seen),
+        Given::Fault(fault) => {
+            say_fault(name, number, fault);
+            false
+        }
+    }
+}
+
+// A step of the reading: 0 to go on, 1 at the end, 2 where something is wrong.
+fn turn(name: &[u8], room: &[u8], l: Lines, issues: &mut [u16; 255], seen: &mut [u64; 255]) -> u8
+    requires { ⌜ Inside l (now room) ⌝ }
+{
+    let a = l.start;
+    let b = l.end;
+    let step = l.step;
+    match step {
+        Step::End => 1,
+        Step::Failed => {
+            text::say::say_errno(b"night", name);
+            2
+        }
+        Step::Long => {
+            say_where(
+                b"night",
+                name,
+                b"line",
+                l.number,
+                b"longer than 65536 bytes",
+            );
+            2
+        }
+        Step::Line => {
+            if take_line(name, l.number, &room[a..b], issues, seen) {
+                0
+            } else {
+                2
+            }
+        }
+    }
+}
+
+// All lines are taken; false where something is wrong.
+fn all_lines(
+    fd: i32,
+    name: &[u8],
+    room: &mut [u8],
+    issues: &mut [u16; 255],
+    seen: &mut [u64; 255],
+) -> bool {
+    let mut l = text::lines::begin();
+    let mut state: u8 = 0;
+    let mut left = u64::MAX;
+    while left > 0 && state == 0 {
+        let next = next_line(fd, room, l);
+        l = next;
+        state = turn(name, room, next, issues, seen);
+        left -= 1;
+    }
+    state == 1
+}
+
+// The list of issues from the file of argument i; false where something is wrong, and it has been said what.
+pub fn read_issues(i: usize, issues: &mut [u16; 255]) -> bool {
+    let mut path = io::buffer();
+    let n = os::arg(i, &mut path);
+    let fd = open_named(&path[..n]);
+    if fd < 0 {
+        return false;
+    }
+    let mut room = io::large_buffer();
+    let mut seen = [0u64; 255];
+    let good = all_lines(fd, &path[..n], &mut room, issues, &mut seen);
+    close_named(fd);
+    good
+}
