@@ -1,0 +1,4 @@
+pub mod StoreLaws
+pub mod SignLaws
+pub mod FlatLaws
+pub mod RoundTrip

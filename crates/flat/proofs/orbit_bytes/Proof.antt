@@ -1,0 +1,107 @@
+-- Each byte is its digit; radial, along and cross are what they were before the calls.
+use borrow.Author.Needs.{needs}
+use mathlib.Core.Path.{_≡_}
+use mir.Syntax.{w16}
+use mir.Val.{toZ, ofZ}
+use Rattle.flat.proofs.orbit_bytes.Statement.{statement}
+use Rattle.flat.proofs.orbit_bytes.Tie as tie
+
+raw16-requires : tie.Need-raw16-requires
+raw16-requires c κs = search needs
+
+raw16-requires-2 : tie.Need-raw16-requires-2
+raw16-requires-2 c κs = search needs
+
+raw16-requires-3 : tie.Need-raw16-requires-3
+raw16-requires-3 c κs = search needs
+
+ura-kind-requires : tie.Need-ura-kind-requires
+ura-kind-requires c κs = search needs
+
+ura-quarters-requires : tie.Need-ura-quarters-requires
+ura-quarters-requires c κs = search needs
+
+cast-t11 : tie.Need-cast-t11
+cast-t11 c = search needs
+
+cast-t13 : tie.Need-cast-t13
+cast-t13 c = search needs
+
+cast-t15 : tie.Need-cast-t15
+cast-t15 c = search needs
+
+cast-t17 : tie.Need-cast-t17
+cast-t17 c = search needs
+
+cast-t19 : tie.Need-cast-t19
+cast-t19 c = search needs
+
+cast-t21 : tie.Need-cast-t21
+cast-t21 c = search needs
+
+cast-t23 : tie.Need-cast-t23
+cast-t23 c = search needs
+
+cast-t25 : tie.Need-cast-t25
+cast-t25 c = search needs
+
+cast-t27 : tie.Need-cast-t27
+cast-t27 c = search needs
+
+cast-t29 : tie.Need-cast-t29
+cast-t29 c = search needs
+
+cast-t31 : tie.Need-cast-t31
+cast-t31 c = search needs
+
+cast-t33 : tie.Need-cast-t33
+cast-t33 c = search needs
+
+cast-t35 : tie.Need-cast-t35
+cast-t35 c = search needs
+
+cast-t37 : tie.Need-cast-t37
+cast-t37 c = search needs
+
+returns : tie.Need-returns
+returns c =
+    let c4 = c .before .before .before .before in
+    let o = c4 .before .before .before .before .before .before .before .before .args .o in
+    let z1 : toZ w16 (ofZ w16 (o .radial)) ≡ o .radial = let t = c4 .before .before .before .before .before .before .before in search needs in
+    let z2 : toZ w16 (ofZ w16 (o .along)) ≡ o .along = let t = c4 .before .before .before .before .before in search needs in
+    let z3 : toZ w16 (ofZ w16 (o .cross)) ≡ o .cross = let t = c4 .before .before .before in search needs in
+    rw (
+      c4 .ura-quarters .ensures,
+      c4 .before .ura-kind .ensures,
+      c4 .before .before .raw163 .ensures,
+      c4 .before .before .before .before .raw162 .ensures,
+      c4 .before .before .before .before .before .before .raw16 .ensures,
+      z1,
+      z2,
+      z3,
+    )
+
+pub orbit-bytes-spec : {M : Type 1} → statement M
+orbit-bytes-spec =
+    tie.close
+    (tie.spec
+    raw16-requires
+    raw16-requires-2
+    raw16-requires-3
+    ura-kind-requires
+    ura-quarters-requires
+    cast-t11
+    cast-t13
+    cast-t15
+    cast-t17
+    cast-t19
+    cast-t21
+    cast-t23
+    cast-t25
+    cast-t27
+    cast-t29
+    cast-t31
+    cast-t33
+    cast-t35
+    cast-t37
+    returns)

@@ -1,0 +1,77 @@
+use Rattle.io.proofs.Counting.{counts}
+use borrow.Author.Needs.{needs}
+use native.Mathlib.Omega.{arith}
+use Prim.Native.Nat.{ℕ, zero, suc, _+_, _*_, _-_, _/_, _%_, _^_, _≤_, _<_}
+use mathlib.Core.Path.{_≡_, sym, ap, _∙_, refl, subst}
+use lib.ListN.{length, getD}
+use Rattle.show.proofs.lines.put_orbits.Statement.{statement}
+use Rattle.show.proofs.lines.put_orbits.Tie as tie
+use Rattle.show.proofs.lines.put_orbits.Reads as reads
+use Rattle.show.proofs.lines.put_orbits.Lts as lts
+use Rattle.show.proofs.lines.put_orbit.Reads as put-orbit-reads
+use Rattle.text.proofs.put.put_bytes.Reads as put-bytes-reads
+
+abbrev Inv-loop : tie.InvT-loop
+Inv-loop room₀ at count os most n₀ i₀ room n i = (length room ≡ length room₀) × (n ≤ length room) × (i ≤ 6)
+
+abbrev μ-loop : tie.MeasureT-loop
+μ-loop room₀ at count os most n₀ i₀ room n i = 6 - i
+
+slice-aggregate-put-bytes : tie.Need-slice-aggregate-put-bytes Inv-loop μ-loop
+slice-aggregate-put-bytes c = search needs
+
+put-bytes-requires : tie.Need-put-bytes-requires Inv-loop μ-loop
+put-bytes-requires c κs = search needs
+
+loop-holds : tie.Need-loop-holds Inv-loop μ-loop
+loop-holds c = search needs
+
+same-length : tie.Need-same-length Inv-loop μ-loop
+same-length c = search needs
+
+returns : tie.Need-returns Inv-loop μ-loop
+returns c = counts _ _ (omega arith)
+
+mul-o : tie.Need-mul-o Inv-loop μ-loop
+mul-o c = search needs
+
+array-copy-out-o : tie.Need-array-copy-out-o Inv-loop μ-loop
+array-copy-out-o c = search needs
+
+put-orbit-requires : tie.Need-put-orbit-requires Inv-loop μ-loop
+put-orbit-requires c κs = search needs
+
+add-i : tie.Need-add-i Inv-loop μ-loop
+add-i c = search needs
+
+loop-less : tie.Need-loop-less Inv-loop μ-loop
+loop-less c = search needs
+
+loop-again : tie.Need-loop-again Inv-loop μ-loop
+loop-again c = search needs
+
+same-length-2 : tie.Need-same-length-2 Inv-loop μ-loop
+same-length-2 c = search needs
+
+returns-2 : tie.Need-returns-2 Inv-loop μ-loop
+returns-2 c = counts _ _ (omega arith)
+
+pub put-orbits-spec : {M : Type 1} → statement M
+put-orbits-spec =
+    tie.close
+    (tie.spec
+    Inv-loop
+    μ-loop
+    slice-aggregate-put-bytes
+    put-bytes-requires
+    loop-holds
+    same-length
+    returns
+    mul-o
+    array-copy-out-o
+    put-orbit-requires
+    add-i
+    loop-less
+    loop-again
+    same-length-2
+    returns-2)

@@ -1,0 +1,65 @@
+use Rattle.io.proofs.Counting.{counts}
+use borrow.Author.Needs.{needs}
+use native.Mathlib.Omega.{arith}
+use Prim.Native.Nat.{ℕ, zero, suc, _+_, _*_, _-_, _/_, _%_, _^_, _≤_, _<_}
+use mathlib.Core.Path.{_≡_, sym, ap, _∙_, refl, subst}
+use lib.ListN.{length, getD}
+use Rattle.show.proofs.lines.put_slots.Statement.{statement}
+use Rattle.show.proofs.lines.put_slots.Tie as tie
+use Rattle.show.proofs.lines.put_slots.Reads as reads
+use Rattle.show.proofs.lines.put_slots.Lts as lts
+use Rattle.show.proofs.lines.put_slot.Reads as put-slot-reads
+use Rattle.text.proofs.put.place_in.Reads as place-in-reads
+
+abbrev Inv-loop : tie.InvT-loop
+Inv-loop room₀ at bits n₀ i₀ room n i = (length room ≡ length room₀) × (n ≤ length room) × (i ≤ 255)
+
+abbrev μ-loop : tie.MeasureT-loop
+μ-loop room₀ at bits n₀ i₀ room n i = 255 - i
+
+place-in-requires : tie.Need-place-in-requires Inv-loop μ-loop
+place-in-requires c κs = search needs
+
+loop-holds : tie.Need-loop-holds Inv-loop μ-loop
+loop-holds c = search needs
+
+add-put-slot : tie.Need-add-put-slot Inv-loop μ-loop
+add-put-slot c = search needs
+
+array-read-put-slot : tie.Need-array-read-put-slot Inv-loop μ-loop
+array-read-put-slot c = search needs
+
+put-slot-requires : tie.Need-put-slot-requires Inv-loop μ-loop
+put-slot-requires c κs = search needs
+
+add-i : tie.Need-add-i Inv-loop μ-loop
+add-i c = search needs
+
+loop-less : tie.Need-loop-less Inv-loop μ-loop
+loop-less c = search needs
+
+loop-again : tie.Need-loop-again Inv-loop μ-loop
+loop-again c = search needs
+
+same-length : tie.Need-same-length Inv-loop μ-loop
+same-length c = search needs
+
+returns : tie.Need-returns Inv-loop μ-loop
+returns c = counts _ _ (omega arith)
+
+pub put-slots-spec : {M : Type 1} → statement M
+put-slots-spec =
+    tie.close
+    (tie.spec
+    Inv-loop
+    μ-loop
+    place-in-requires
+    loop-holds
+    add-put-slot
+    array-read-put-slot
+    put-slot-requires
+    add-i
+    loop-less
+    loop-again
+    same-length
+    returns)

@@ -1,0 +1,155 @@
+/* Quieuvodan: BeiDou PPP-B2b messages read and written, frames kept in a
+ * ledger, and the list of the satellites that qualify. For C and C++.
+ *
+ * Link with libclib.a (x86-64 Linux), which `rt staticlib clib` writes to
+ * target/staticlib/. It uses memcpy and memset of the C library and nothing
+ * else: no heap, no files, no global state. Functions on different memory may
+ * run at the same time.
+ *
+ *     cc -I include program.c target/staticlib/libclib.a
+ *
+ * Every function is total: for any bytes it ends, and returns QVD_TAKEN or one
+ * refusal number, the lowest that applies. QVD_LENGTH comes before all others:
+ * a ledger, a form or a room that is not as long as this header says. A length
+ * that the rules themselves speak of (a frame, a message, the room for a
+ * message, the issue list) is refused with QVD_BAD_LENGTH instead. A refusal
+ * leaves all that was lent as it was, save that a refused reading gives
+ * contents that are all zero.
+ *
+ * What the caller must keep, since no length can show it:
+ * - each pointer is valid for the number of elements that follows it, also
+ *   where that number is wrong for the function, and is not NULL, even for 0;
+ * - memory that a function changes overlaps nothing else that it is lent;
+ * - uint16_t memory is aligned as C asks, and the machine's own byte order;
+ * - nothing else changes the memory during the call.
+ *
+ * The proofs say, for every input, exactly what is returned and what each lent
+ * room then holds: crates/clib/specs/Boundary.antt. */
+#ifndef QUIEUVODAN_H
+#define QUIEUVODAN_H
+
+#include <stddef.h>
+#include <stdint.h>
+
+#ifdef __cplusplus
+extern "C" {
+#endif
+
+/* Sizes in bytes, save QVD_ISSUES: the entries of an issue list. */
+enum {
+    QVD_FRAME_BYTES = 125,
+    QVD_MESSAGE_BYTES = 61,
+    QVD_LEDGER_BYTES = 9440,
+    QVD_ISSUES = 255,
+    QVD_ROW_BYTES = 27,
+    QVD_MOST_ROWS = 174,
+    QVD_ROWS_BYTES = 4698, /* QVD_MOST_ROWS rows */
+    QVD_CONTENTS_BYTES = 488
+};
+
+/* What the functions return. */
+enum {
+    QVD_TAKEN = 0,
+    QVD_BAD_LENGTH = 1,     /* frame not 125 bytes, message or its room not 61, issue list not 255 */
+    QVD_LAST_BITS = 2,      /* a message's last two bits are not zero */
+    QVD_SYNC = 3,           /* sync is not 0xEB90 */
+    QVD_PRN = 4,            /* frame of another PRN; a ledger for a PRN that is not 1 to 5 or 59 to 63 */
+    QVD_WITHDRAWN = 5,      /* first flag bit is 1 */
+    QVD_PARITY = 6,         /* some parity group is not zero */
+    QVD_CHECK = 7,          /* check bits wrong */
+    QVD_TYPE = 8,           /* type is not 1, 2, 4, 6, 7 or 63 */
+    QVD_PARTS_END = 9,      /* types 6, 7: parts end after bit 462 */
+    QVD_EPOCH = 10,         /* an epoch above 86399 */
+    QVD_SLOT = 11,          /* a slot above 255; Slot_S 0 or above 255; a row asked for slot 0 or above 255 */
+    QVD_TWICE = 12,         /* one slot twice among orbit records, or among type 7 clock records */
+    QVD_RESERVED_SLOT = 13, /* mask bit set in 175 to 255 */
+    QVD_MASK = 14,          /* no mask in force, or its IOD SSR or IODP differ */
+    QVD_PLACE = 15,         /* no satellite has the place */
+    QVD_FIELD = 16,         /* writing: a field exceeds its width, or no URA code gives the quarters */
+    QVD_ISSUE = 17,         /* an issue is neither 0 to 1023 nor 65535 */
+    QVD_NO_ROW = 18,        /* the slot does not qualify */
+    QVD_LENGTH = 39         /* a ledger, contents, rows or verdicts of another length than here */
+};
+
+enum { QVD_NO_ISSUE = 65535 };
+enum { QVD_BEIDOU = 1, QVD_GPS = 2, QVD_GALILEO = 3, QVD_GLONASS = 4 };
+enum { QVD_URA_UNKNOWN = 0, QVD_URA_QUARTERS = 1, QVD_URA_ABOVE = 2 };
+
+/* Forms. All numbers are high byte first; those marked s are in two's
+ * complement. Offsets and sizes are in bytes.
+ *
+ * A row, 27 bytes. Orbit values and clock are in tenths of a millimetre.
+ *      0  1  slot                 6  4  radial, s       22  1  URA: its kind
+ *      1  1  system              10  4  along, s        23  4  URA: quarter
+ *      2  1  number in it        14  4  cross, s              millimetres, 0 for
+ *      3  2  IODN                18  4  clock, s              the other kinds
+ *      5  1  IOD Corr
+ *
+ * Contents, 488 bytes. Values are raw, as the message has them. A part that the
+ * type lacks, a blank record and a record past the count are all zero when they
+ * are read, and are not looked at when they are written.
+ *      0  1  type: 1, 2, 4, 6, 7 or 63
+ *      1  4  mask part: epoch
+ *      5  1  IOD SSR
+ *      6  1  IODP
+ *      7  255 x 1  slots 1 to 255: 1 is set, any other byte is not
+ *    262  4  clock part: epoch
+ *    266  1  IOD SSR
+ *    267  1  IODP (types 4 and 6)
+ *    268  2  sub-type (type 4) or Slot_S (type 6)
+ *    270  1  number of clock records: NumC in types 6 and 7; a type 4 is read as 23
+ *            and written as 23 whatever stands here
+ *    271  23 x 5  slot (2; type 7 alone), IOD Corr (1), C0 (2, s)
+ *    386  4  orbit part: epoch
+ *    390  1  IOD SSR
+ *    391  1  number of orbit records: NumO in types 6 and 7; a type 2 is read as 6
+ *            and written as 6 whatever stands here
+ *    392  6 x 16  slot (2), IODN (2), IOD Corr (1), radial, along, cross (2 each, s),
+ *                 URA: its kind (1) and quarters (4); any other kind than 1 and 2
+ *                 is unknown, and quarters are looked at in kind 1 alone
+ *
+ * A ledger is 9440 bytes that only these functions need to understand. Any bytes
+ * are some ledger; qvd_open makes a fresh one. It may be copied and stored.
+ *
+ * An issue list has entry k - 1 for slot k: 0 to 1023, or QVD_NO_ISSUE. */
+
+/* Makes the n bytes a fresh ledger for a PRN, whatever they held. 4, 39. */
+uint8_t qvd_open(uint8_t *ledger, size_t n, uint8_t prn);
+
+/* Takes one frame, whole or not at all. 1, 3 to 15, 39. */
+uint8_t qvd_take(uint8_t *ledger, size_t n, const uint8_t *frame, size_t m);
+
+/* Makes a fresh ledger for a PRN and takes the frames of a log of m bytes in
+ * order: pieces of 125 bytes, and what is left at the end as one more frame.
+ * verdicts gets what qvd_take would return for each; k is the number of frames,
+ * (m + 124) / 125, or 39. 4, 39. */
+uint8_t qvd_replay(uint8_t *ledger, size_t n, uint8_t prn, const uint8_t *log, size_t m,
+                   uint8_t *verdicts, size_t k);
+
+/* Gives the rows of all slots that qualify, one after the other in rising slot
+ * order, then zeros; r is QVD_ROWS_BYTES. A row's first byte, its slot, is never
+ * 0. A ledger that qvd_open and qvd_take made has at most 174 rows; of other
+ * bytes' rows those past the end are left out. 1, 17, 39. */
+uint8_t qvd_rows(const uint8_t *ledger, size_t n, const uint16_t *issues, size_t k,
+                 uint8_t *rows, size_t r);
+
+/* Gives the row of a slot; r is QVD_ROW_BYTES. 1, 11, 17, 18, 39. */
+uint8_t qvd_row(const uint8_t *ledger, size_t n, const uint16_t *issues, size_t k, uint16_t slot,
+                uint8_t *row, size_t r);
+
+/* Reads a message of m bytes; k is QVD_CONTENTS_BYTES. 1, 2, 7 to 13, 39. */
+uint8_t qvd_read(const uint8_t *message, size_t m, uint8_t *contents, size_t k);
+
+/* Reads a frame of m bytes without a ledger, for any PRN; k is
+ * QVD_CONTENTS_BYTES. 1, 3, 5 to 13, 39. */
+uint8_t qvd_read_frame(const uint8_t *frame, size_t m, uint8_t *contents, size_t k);
+
+/* Writes the message of contents into a room of m bytes, QVD_MESSAGE_BYTES; k is
+ * QVD_CONTENTS_BYTES. 1, 8 to 13, 16, 39. */
+uint8_t qvd_write(const uint8_t *contents, size_t k, uint8_t *room, size_t m);
+
+#ifdef __cplusplus
+}
+#endif
+
+#endif
