@@ -1,0 +1,72 @@
+use borrow.Author.Needs.{needs}
+use native.Mathlib.Omega.{arith}
+use Prim.Native.Nat.{ℕ, zero, suc, _+_, _*_, _-_, _/_, _%_, _^_, _≤_, _<_}
+use mathlib.Core.Path.{_≡_, sym, ap, _∙_, refl, subst}
+use lib.ListN.{length, getD}
+use Rattle.pack.proofs.lines.read_slots.Statement.{statement}
+use Rattle.pack.proofs.lines.read_slots.Tie as tie
+use Rattle.pack.proofs.lines.read_slots.Reads as reads
+use Rattle.pack.proofs.lines.read_slots.Lts as lts
+use Rattle.pack.proofs.lines.slot_word.Reads as slot-word-reads
+use Rattle.pack.proofs.place.failed.Reads as failed-reads
+
+abbrev Inv-loop : tie.InvT-loop
+Inv-loop s bits₀ place₀ last₀ i₀ bits place last i = i ≤ 255
+
+abbrev μ-loop : tie.MeasureT-loop
+μ-loop s bits₀ place₀ last₀ i₀ bits place last i = 255 - i
+
+loop-holds : tie.Need-loop-holds Inv-loop μ-loop
+loop-holds c = search needs
+
+slot-word-requires : tie.Need-slot-word-requires Inv-loop μ-loop
+slot-word-requires c κs = search needs
+
+returns : tie.Need-returns Inv-loop μ-loop
+returns c = search needs
+
+failed-requires : tie.Need-failed-requires Inv-loop μ-loop
+failed-requires c κs = search needs
+
+returns-2 : tie.Need-returns-2 Inv-loop μ-loop
+returns-2 c = search needs
+
+cast-k : tie.Need-cast-k Inv-loop μ-loop
+cast-k c = search needs
+
+sub-k : tie.Need-sub-k Inv-loop μ-loop
+sub-k c = search needs
+
+array-write-bits : tie.Need-array-write-bits Inv-loop μ-loop
+array-write-bits c = search needs
+
+add-i : tie.Need-add-i Inv-loop μ-loop
+add-i c = search needs
+
+loop-less : tie.Need-loop-less Inv-loop μ-loop
+loop-less c = search needs
+
+loop-again : tie.Need-loop-again Inv-loop μ-loop
+loop-again c = search needs
+
+returns-3 : tie.Need-returns-3 Inv-loop μ-loop
+returns-3 c = search needs
+
+pub read-slots-spec : {M : Type 1} → statement M
+read-slots-spec =
+    tie.close
+    (tie.spec
+    Inv-loop
+    μ-loop
+    loop-holds
+    slot-word-requires
+    returns
+    failed-requires
+    returns-2
+    cast-k
+    sub-k
+    array-write-bits
+    add-i
+    loop-less
+    loop-again
+    returns-3)

@@ -1,0 +1,233 @@
+// Clock and orbit records: numbers with strokes between them.
+ghost use Prim.Native.Nat.{_≤_};
+ghost use lib.ListN.{length};
+use crate::place::byte_of;
+use crate::place::short_of;
+use records::clock::Clock;
+use records::clock::blank_clock;
+use records::orbit::Orbit;
+use records::orbit::blank_orbit;
+use records::ura::Ura;
+use text::words::Number;
+use text::words::Raw;
+use text::words::number_of;
+use text::words::raw_of;
+use text::words::same;
+
+// A record and whether it was well formed.
+pub struct ClockWord {
+    pub good: bool,
+    pub clock: Clock,
+}
+
+pub struct OrbitWord {
+    pub good: bool,
+    pub orbit: Orbit,
+}
+
+// A number of a record, where the next one begins, and whether all was well so far.
+struct Part {
+    at: usize,
+    good: bool,
+    whole: u32,
+    raw: i16,
+}
+
+// The first part's place.
+fn first() -> Part {
+    Part {
+        at: 0,
+        good: true,
+        whole: 0,
+        raw: 0,
+    }
+}
+
+// Something is wrong.
+fn wrong() -> Part {
+    Part {
+        at: 0,
+        good: false,
+        whole: 0,
+        raw: 0,
+    }
+}
+
+// The place of the next stroke from a place on, or the word's end.
+fn stroke(w: &[u8], at: usize) -> usize
+    requires { ⌜ at ≤ length (now w) ⌝ }
+    ensures { λ r. ⌜ (at ≤ r) × (r ≤ length (now (w .entry))) ⌝ }
+{
+    let mut i = at;
+    while i < w.len() {
+        if w[i] == b'/' {
+            return i;
+        }
+        i += 1;
+    }
+    i
+}
+
+// The next number, without a sign.
+fn whole_part(w: &[u8], p: Part) -> Part {
+    let at = p.at;
+    if !p.good {
+        return wrong();
+    }
+    if at >= w.len() {
+        return wrong();
+    }
+    let to = stroke(w, at);
+    let n = number_of(&w[at..to]);
+    let Number::Value(v) = n else {
+        return wrong();
+    };
+    Part {
+        at: after(w, to),
+        good: true,
+        whole: v,
+        raw: 0,
+    }
+}
+
+// The next number, with or without a minus sign.
+fn raw_part(w: &[u8], p: Part) -> Part {
+    let at = p.at;
+    if !p.good {
+        return wrong();
+    }
+    if at >= w.len() {
+        return wrong();
+    }
+    let to = stroke(w, at);
+    let n = raw_of(&w[at..to]);
+    let Raw::Value(v) = n else {
+        return wrong();
+    };
+    Part {
+        at: after(w, to),
+        good: true,
+        whole: 0,
+        raw: v,
+    }
+}
+
+// The place after a stroke; far past the end where the word has no stroke there.
+fn after(w: &[u8], to: usize) -> usize {
+    if to < w.len() { to + 1 } else { usize::MAX }
+}
+
+// Whether nothing is left of the word.
+fn is_done(p: Part) -> bool {
+    p.good & (p.at == usize::MAX)
+}
+
+// A clock record without a slot.
+pub fn bare_clock(w: &[u8]) -> ClockWord {
+    let a = whole_part(w, first());
+    let b = raw_part(w, a);
+    let good = is_done(b);
+    let clock = Clock {
+        slot: 0,
+        corr: byte_of(a.whole),
+        c0: b.raw,
+    };
+    ClockWord { good, clock }
+}
+
+// A clock record with its slot, or a blank one.
+pub fn slot_clock(w: &[u8]) -> ClockWord {
+    if same(w, b"-") {
+        let clock = blank_clock();
+        return ClockWord { good: true, clock };
+    }
+    let a = whole_part(w, first());
+    let b = whole_part(w, a);
+    let c = raw_part(w, b);
+    let good = is_done(c) & (a.whole > 0);
+    let clock = Clock {
+        slot: short_of(a.whole),
+        corr: byte_of(b.whole),
+        c0: c.raw,
+    };
+    ClockWord { good, clock }
+}
+
+// A URA and whether it was well formed.
+struct UraWord {
+    good: bool,
+    ura: Ura,
+}
+
+// The URA that a text says.
+fn ura_of(t: &[u8]) -> UraWord {
+    if same(t, b"unknown") {
+        return UraWord {
+            good: true,
+            ura: Ura::Unknown,
+        };
+    }
+    if same(t, b"above") {
+        return UraWord {
+            good: true,
+            ura: Ura::Above,
+        };
+    }
+    let n = number_of(t);
+    let Number::Value(q) = n else {
+        return UraWord {
+            good: false,
+            ura: Ura::Unknown,
+        };
+    };
+    UraWord {
+        good: true,
+        ura: Ura::Quarters(q),
+    }
+}
+
+// The URA that the rest of a word says.
+fn last_ura(w: &[u8], p: Part) -> UraWord {
+    let at = p.at;
+    if p.good {
+        if at < w.len() {
+            return ura_of(&w[at..]);
+        }
+    }
+    UraWord {
+        good: false,
+        ura: Ura::Unknown,
+    }
+}
+
+// The raw values and the URA of an orbit record, after its slot, IODN and IOD Corr.
+fn orbit_from(w: &[u8], p: Part, slot: u32, iodn: u32, corr: u32) -> OrbitWord {
+    let a = raw_part(w, p);
+    let b = raw_part(w, a);
+    let c = raw_part(w, b);
+    let u = last_ura(w, c);
+    let ura = u.ura;
+    let good = u.good & (slot > 0);
+    let orbit = Orbit {
+        slot: short_of(slot),
+        iodn: short_of(iodn),
+        corr: byte_of(corr),
+        radial: a.raw,
+        along: b.raw,
+        cross: c.raw,
+        ura,
+    };
+    OrbitWord { good, orbit }
+}
+
+// An orbit record, or a blank one.
+pub fn orbit(w: &[u8]) -> OrbitWord {
+    if same(w, b"-") {
+        let orbit = blank_orbit();
+        return OrbitWord { good: true, orbit };
+    }
+    let a = whole_part(w, first());
+    let b = whole_part(w, a);
+    let c = whole_part(w, b);
+    orbit_from(w, c, a.whole, b.whole, c.whole)
+}

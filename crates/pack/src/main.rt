@@ -1,0 +1,141 @@
+// pack FILE: the messages of lines as show writes them, 61 bytes each, on standard output.
+mod fields;
+mod lines;
+mod place;
+
+ghost use Rattle.text.specs.Lines.{Inside};
+use libc::STDERR_FILENO;
+use libc::STDIN_FILENO;
+use libc::STDOUT_FILENO;
+use message::parts::Contents;
+use message::read::Verdict;
+use place::Place;
+use text::lines::Lines;
+use text::lines::Step;
+use text::lines::next_line;
+use text::put::put_bytes;
+use text::put::put_number;
+use text::say::say_where;
+
+// A line is refused.
+fn say_refused(name: &[u8], number: u64, n: u8) {
+    let mut room = [0u8; 40];
+    let a = put_bytes(&mut room, 0, b"refused ");
+    let b = put_number(&mut room, a, n as u64);
+    say_where(b"pack", name, b"line", number, &room[..b]);
+}
+
+// A line is malformed: what was expected at which word.
+fn say_malformed(name: &[u8], number: u64, p: Place) {
+    let mut room = [0u8; 120];
+    let a = put_bytes(&mut room, 0, b"word ");
+    let b = put_number(&mut room, a, p.word as u64);
+    let c = put_bytes(&mut room, b, b": expected ");
+    let d = place::put_expected(&mut room, c, p.fault);
+    say_where(b"pack", name, b"line", number, &room[..d]);
+}
+
+// Contents are written to standard output, or refused.
+fn write_contents(name: &[u8], number: u64, c: Contents) {
+    let mut room = [0u8; 61];
+    let v = writing::write(&mut room, c);
+    match v {
+        Verdict::Taken => {
+            io::write_all(STDOUT_FILENO, &room);
+        }
+        Verdict::Refused(n) => say_refused(name, number, n),
+    }
+}
+
+// A line that is neither blank nor a comment.
+fn pack_message(name: &[u8], number: u64, s: &[u8]) {
+    let l = lines::read_message(s);
+    let p = l.place;
+    if p.fault != 0 {
+        say_malformed(name, number, p);
+        return;
+    }
+    let c = l.contents;
+    write_contents(name, number, c);
+}
+
+// A line.
+fn pack_line(name: &[u8], number: u64, s: &[u8]) {
+    let w = text::words::next_word(s, 0);
+    let a = w.from;
+    let b = w.to;
+    if a == b {
+        return;
+    }
+    if text::words::starts(&s[a..b], b'#') {
+        return;
+    }
+    pack_message(name, number, s);
+}
+
+// A step of the reading: true to go on.
+fn turn(name: &[u8], room: &[u8], l: Lines) -> bool
+    requires { ⌜ Inside l (now room) ⌝ }
+{
+    let a = l.start;
+    let b = l.end;
+    let step = l.step;
+    match step {
+        Step::End => false,
+        Step::Failed => {
+            text::say::say_errno_where(b"pack", name, b"line", l.number);
+            false
+        }
+        Step::Long => {
+            say_where(b"pack", name, b"line", l.number, b"longer than 65536 bytes");
+            false
+        }
+        Step::Line => {
+            pack_line(name, l.number, &room[a..b]);
+            true
+        }
+    }
+}
+
+// All lines of an input.
+fn pack_all(fd: i32, name: &[u8], room: &mut [u8]) {
+    let mut l = text::lines::begin();
+    let mut on = true;
+    let mut left = u64::MAX;
+    while left > 0 && on {
+        let next = next_line(fd, room, l);
+        l = next;
+        on = turn(name, room, next);
+        left -= 1;
+    }
+}
+
+// The file of a name; - is standard input.
+fn pack_file(name: &[u8]) {
+    let mut room = io::large_buffer();
+    if text::words::same(name, b"-") {
+        pack_all(STDIN_FILENO, name, &mut room);
+        return;
+    }
+    let fd = os::open_read(name);
+    if fd < 0 {
+        text::say::say_errno(b"pack", name);
+        return;
+    }
+    pack_all(fd, name, &mut room);
+    libc::close(fd);
+}
+
+fn main() {
+    if os::arg_count() != 2 {
+        io::write_all(STDERR_FILENO, b"usage: pack FILE\n");
+        return;
+    }
+    let mut path = io::buffer();
+    let n = os::arg(1, &mut path);
+    if os::errno() != 0 {
+        text::say::say_errno(b"pack", b"argument");
+        return;
+    }
+    pack_file(&path[..n]);
+}

@@ -1,0 +1,182 @@
+// Where the reading of a line stands, and what was expected where it failed.
+ghost use Rattle.io.specs.Counts.{Counts};
+use text::put::put_bytes;
+use text::words::Number;
+use text::words::Word;
+use text::words::next_word;
+use text::words::number_of;
+
+// The place after the last word read, the number of the next word, and what was expected where that is not it (0: no fault).
+pub struct Place {
+    pub at: usize,
+    pub word: u32,
+    pub fault: u8,
+}
+
+// A place and the number read before it.
+pub struct Got {
+    pub place: Place,
+    pub value: u32,
+}
+
+// What can be expected: keys by their place in the text of put_key, from 1, and these.
+pub const NUMBER: u8 = 21;
+
+pub const CLOCK: u8 = 22;
+
+pub const SLOT_CLOCK: u8 = 23;
+
+pub const ORBIT: u8 = 24;
+
+pub const SLOT: u8 = 25;
+
+pub const LINE_END: u8 = 26;
+
+// The start of a line.
+pub fn start() -> Place {
+    Place {
+        at: 0,
+        word: 1,
+        fault: 0,
+    }
+}
+
+// The place with a fault.
+pub fn failed(p: Place, fault: u8) -> Place {
+    Place {
+        at: p.at,
+        word: p.word,
+        fault,
+    }
+}
+
+// The place after a word that ends at another.
+pub fn passed(p: Place, to: usize) -> Place {
+    let word = if p.word < 1000000 { p.word + 1 } else { p.word };
+    Place {
+        at: to,
+        word,
+        fault: 0,
+    }
+}
+
+// The k-th word of a text, from 1.
+fn nth_word(s: &[u8], k: u8) -> Word {
+    let mut w = Word { from: 0, to: 0 };
+    let mut i: u8 = 0;
+    while i < k {
+        let next = next_word(s, w.to);
+        w = next;
+        i += 1;
+    }
+    w
+}
+
+// The k-th word of a text, from 1, is put.
+fn put_nth(room: &mut [u8], at: usize, s: &[u8], k: u8) -> usize
+    ensures { λ r. ⌜ Counts r (now (room .exit)) ⌝ }
+{
+    let w = nth_word(s, k);
+    let z = next_word(s, w.from);
+    let a = z.from;
+    let b = z.to;
+    put_bytes(room, at, &s[a..b])
+}
+
+// A key of the lines.
+fn put_key(room: &mut [u8], at: usize, k: u8) -> usize
+    ensures { λ r. ⌜ Counts r (now (room .exit)) ⌝ }
+{
+    put_nth(
+        room,
+        at,
+        b"type epoch ssr iodp slots orbits sub clocks clock-epoch clock-ssr from orbit-epoch orbit-ssr",
+        k,
+    )
+}
+
+// What was expected, in words.
+pub fn put_expected(room: &mut [u8], at: usize, fault: u8) -> usize
+    ensures { λ r. ⌜ Counts r (now (room .exit)) ⌝ }
+{
+    match fault {
+        NUMBER => put_bytes(room, at, b"a number"),
+        CLOCK => put_bytes(room, at, b"a clock, such as 1/7"),
+        SLOT_CLOCK => put_bytes(room, at, b"a clock with its slot, such as 19/1/7, or -"),
+        ORBIT => put_bytes(room, at, b"an orbit, such as 19/37/2/100/-50/20/59, or -"),
+        SLOT => put_bytes(room, at, b"a slot above the one before, up to 255"),
+        LINE_END => put_bytes(room, at, b"the end of the line"),
+        _ => put_key(room, at, fault),
+    }
+}
+
+// Whether a word is a key.
+fn is_key(w: &[u8], k: u8) -> bool {
+    let mut room = [0u8; 16];
+    let n = put_key(&mut room, 0, k);
+    text::words::same(w, &room[..n])
+}
+
+// Whether the next word is a key.
+pub fn next_is(s: &[u8], p: Place, k: u8) -> bool {
+    let w = next_word(s, p.at);
+    let a = w.from;
+    let b = w.to;
+    is_key(&s[a..b], k)
+}
+
+// A key is passed.
+pub fn key(s: &[u8], p: Place, k: u8) -> Place {
+    if p.fault != 0 {
+        return p;
+    }
+    if next_is(s, p, k) {
+        let w = next_word(s, p.at);
+        return passed(p, w.to);
+    }
+    failed(p, k)
+}
+
+// A number is read.
+pub fn number_word(s: &[u8], p: Place) -> Got {
+    if p.fault != 0 {
+        return Got { place: p, value: 0 };
+    }
+    let w = next_word(s, p.at);
+    let a = w.from;
+    let b = w.to;
+    let n = number_of(&s[a..b]);
+    let Number::Value(value) = n else {
+        let place = failed(p, NUMBER);
+        return Got { place, value: 0 };
+    };
+    let place = passed(p, b);
+    Got { place, value }
+}
+
+// A key and its number are read.
+pub fn field(s: &[u8], p: Place, k: u8) -> Got {
+    number_word(s, key(s, p, k))
+}
+
+// The line must end.
+pub fn end(s: &[u8], p: Place) -> Place {
+    if p.fault != 0 {
+        return p;
+    }
+    let w = next_word(s, p.at);
+    if w.from == w.to {
+        return p;
+    }
+    failed(p, LINE_END)
+}
+
+// A number as a byte; 255 stands for that and all above, which no field holds.
+pub fn byte_of(v: u32) -> u8 {
+    if v > 255 { 255 } else { v as u8 }
+}
+
+// A number of 16 bits; 65535 stands for that and all above, which no field holds.
+pub fn short_of(v: u32) -> u16 {
+    if v > 65535 { 65535 } else { v as u16 }
+}
