@@ -33,7 +33,7 @@ loop-again : tie.Need-loop-again Inv-loop μ-loop
 loop-again c =
     let l = c .before .loop in (
       simp length-set (omega arith),
-      length-set (l .t) (l .i) 0 ∙ l .inv .1,
+      simp length-set (l .inv .1),
       λ j h.
           dite (ℕ-discrete j (l .i))
           (λ e. rw e (getD-set-same (l .t) (l .i) 0 0 (omega arith)))

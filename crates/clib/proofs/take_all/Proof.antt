@@ -48,7 +48,7 @@ loop-again c =
     let n = c .before .before .take-nth in (
       simp length-set (omega arith),
       n .kept .0 ∙ l .inv .1,
-      length-set (l .verdicts) (l .i) (n .result) ∙ l .inv .2,
+      simp length-set (l .inv .2),
       l .inv .3,
       n .ensures .1
           ∙ ap (λ (s : List ℕ). takeBytes s (frameAt (a .log .now) (l .i))) (l .inv .4)
