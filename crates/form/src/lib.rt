@@ -132,7 +132,7 @@ pub fn put_clock(t: &mut [u8], slot: u16, h: HeldClock)
     if slot == 0 {
         return;
     }
-    if slot > 255 {
+    if 255 < slot {
         return;
     }
     let at = clock_place(slot as u8);

@@ -14,9 +14,7 @@ returns c =
     rw (c .if1 .taken) (sym (put-none clockOf clockBytes 12 clock-long (a .t .now) 260 (a .h)))
 
 returns-2 : tie.Need-returns-2
-returns-2 c =
-    let a = c .before .before .before .args in
-    sym (put-far clockOf clockBytes 12 clock-long (a .t .now) 260 (a .slot) (a .h) (omega arith))
+returns-2 c = sym (put-far clockOf clockBytes 12 clock-long _ 260 _ _ (omega arith))
 
 cast-clock-place : tie.Need-cast-clock-place
 cast-clock-place c = search needs
