@@ -18,11 +18,11 @@ use Rattle.records.specs.Orbit.{blankOrbit, orbitAt}
 use Rattle.records.specs.Clock.{blankClock, clockAt}
 use Rattle.records.specs.declared.orbit.Orbit.{Orbit}
 use Rattle.records.specs.declared.clock.Clock.{Clock}
-use Rattle.message.specs.Parts.{clocksAt, orbitsAt, noMask, noClocks, noOrbits, maskIn, clocksIn, orbitsIn, layoutAt, contentsAt}
-use Rattle.message.specs.declared.layout.Layout.{Layout}
-use Rattle.message.specs.declared.parts.ClockPart.{ClockPart}
-use Rattle.message.specs.declared.parts.OrbitPart.{OrbitPart}
-use Rattle.message.specs.declared.parts.Contents.{Contents}
+use Rattle.contents.specs.Parts.{clocksAt, orbitsAt, noMask, noClocks, noOrbits, maskIn, clocksIn, orbitsIn, layoutAt, contentsAt}
+use Rattle.contents.specs.declared.layout.Layout.{Layout}
+use Rattle.contents.specs.declared.parts.ClockPart.{ClockPart}
+use Rattle.contents.specs.declared.parts.OrbitPart.{OrbitPart}
+use Rattle.contents.specs.declared.parts.Contents.{Contents}
 use Rattle.canon.specs.Canon.{canonClock, canonClockRows, canonClocks, canonOrbit, canonOrbitRows, canonOrbits, layoutFor, canon}
 use Rattle.canon.proofs.KindLaws.{layout-same}
 

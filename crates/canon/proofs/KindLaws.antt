@@ -7,9 +7,9 @@ use lib.Dec.{eqb}
 use native.Mathlib.Decide.{ℕ-discrete}
 use native.Mathlib.Omega.{arith}
 use borrow.Author.Tests.{ne-eqb}
-use Rattle.message.specs.Layout.{layoutOf}
-use Rattle.message.specs.declared.layout.Layout.{Layout}
-use Rattle.message.proofs.LayoutLaws.{pick-all}
+use Rattle.contents.specs.Layout.{layoutOf}
+use Rattle.contents.specs.declared.layout.Layout.{Layout}
+use Rattle.contents.proofs.LayoutLaws.{pick-all}
 
 -- 01: the type alone, or the type and two counts, stand in front of the parts
 abbrev pub Headed : Layout → Type 0

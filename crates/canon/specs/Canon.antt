@@ -10,12 +10,12 @@ use Rattle.records.specs.Orbit.{blankOrbit}
 use Rattle.records.specs.Clock.{blankClock}
 use Rattle.records.specs.declared.orbit.Orbit.{Orbit}
 use Rattle.records.specs.declared.clock.Clock.{Clock}
-use Rattle.message.specs.Layout.{layoutOf}
-use Rattle.message.specs.Parts.{noMask, noClocks, noOrbits}
-use Rattle.message.specs.declared.layout.Layout.{Layout}
-use Rattle.message.specs.declared.parts.ClockPart.{ClockPart}
-use Rattle.message.specs.declared.parts.OrbitPart.{OrbitPart}
-use Rattle.message.specs.declared.parts.Contents.{Contents}
+use Rattle.contents.specs.Layout.{layoutOf}
+use Rattle.contents.specs.Parts.{noMask, noClocks, noOrbits}
+use Rattle.contents.specs.declared.layout.Layout.{Layout}
+use Rattle.contents.specs.declared.parts.ClockPart.{ClockPart}
+use Rattle.contents.specs.declared.parts.OrbitPart.{OrbitPart}
+use Rattle.contents.specs.declared.parts.Contents.{Contents}
 
 -- 01: a clock record has a slot in type 7 alone, and is blank there where that is 0
 abbrev pub canonClock : Bool → Clock → Clock

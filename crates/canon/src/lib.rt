@@ -3,14 +3,14 @@ ghost use mathlib.Core.Path.{_≡_};
 ghost use Prim.Native.Nat.{_<_};
 ghost use lib.Dec.{eqb};
 ghost use Rattle.bits.specs.Pick.{pick};
-ghost use Rattle.message.specs.Parts.{noMask};
+ghost use Rattle.contents.specs.Parts.{noMask};
 ghost use Rattle.canon.specs.Canon.{canonClock, canonClockNth, canonClockRows, canonClocks, canonOrbit, canonOrbitNth, canonOrbitRows, canonOrbits, canon};
-use message::layout::Layout;
-use message::layout::layout_of;
-use message::parts::ClockPart;
-use message::parts::Contents;
-use message::parts::MaskPart;
-use message::parts::OrbitPart;
+use contents::layout::Layout;
+use contents::layout::layout_of;
+use contents::parts::ClockPart;
+use contents::parts::Contents;
+use contents::parts::MaskPart;
+use contents::parts::OrbitPart;
 use records::clock::Clock;
 use records::clock::blank_clock;
 use records::orbit::Orbit;
@@ -71,7 +71,7 @@ fn canon_clocks(l: Layout, k: ClockPart) -> ClockPart
     ensures { λ r. ⌜ r ≡ canonClocks l k ⌝ }
 {
     if l.clocks == 0 {
-        return message::parts::no_clocks();
+        return contents::parts::no_clocks();
     }
     let ks = k.clocks;
     let clocks = canon_clock_rows(l.slotted, l.clocks, ks);
@@ -128,7 +128,7 @@ fn canon_orbits(l: Layout, o: OrbitPart) -> OrbitPart
     ensures { λ r. ⌜ r ≡ canonOrbits l o ⌝ }
 {
     if l.orbits == 0 {
-        return message::parts::no_orbits();
+        return contents::parts::no_orbits();
     }
     let os = o.orbits;
     let orbits = canon_orbit_rows(l.orbits, os);
@@ -144,7 +144,7 @@ fn canon_orbits(l: Layout, o: OrbitPart) -> OrbitPart
 fn canon_mask(has: bool, m: MaskPart) -> MaskPart
     ensures { λ r. ⌜ r ≡ pick has m noMask ⌝ }
 {
-    if has { m } else { message::parts::no_mask() }
+    if has { m } else { contents::parts::no_mask() }
 }
 
 // The contents as their type carries them: blank records, records past a count and absent parts are all zero.

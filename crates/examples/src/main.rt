@@ -134,7 +134,7 @@ fn say_end(kind: u8, numc: u8, numo: u8) {
     say(b" and ");
     say_number(numo as u64);
     say(b", ends at ");
-    say_number(message::layout::end_of(message::layout::layout_of(kind, numc, numo)) as u64);
+    say_number(contents::layout::end_of(contents::layout::layout_of(kind, numc, numo)) as u64);
     say(b"\n");
 }
 

@@ -10,11 +10,11 @@ use Rattle.bits.specs.Table.{table}
 use Rattle.bits.proofs.TableLaws.{length-table}
 use Rattle.records.specs.declared.orbit.Orbit.{Orbit}
 use Rattle.records.specs.declared.clock.Clock.{Clock}
-use Rattle.message.specs.declared.parts.MaskPart.{MaskPart}
-use Rattle.message.specs.declared.parts.ClockPart.{ClockPart}
-use Rattle.message.specs.declared.parts.OrbitPart.{OrbitPart}
-use Rattle.message.specs.declared.parts.Contents.{Contents}
-use Rattle.message.specs.Parts.{noContents, noMask, noClocks, noOrbits}
+use Rattle.contents.specs.declared.parts.MaskPart.{MaskPart}
+use Rattle.contents.specs.declared.parts.ClockPart.{ClockPart}
+use Rattle.contents.specs.declared.parts.OrbitPart.{OrbitPart}
+use Rattle.contents.specs.declared.parts.Contents.{Contents}
+use Rattle.contents.specs.Parts.{noContents, noMask, noClocks, noOrbits}
 use Rattle.list.specs.declared.row.Row.{Row}
 use Rattle.flat.specs.Write.{flagsOf, clockRow, orbitRow, rowsTo, maskHead, clockHead, orbitHead, maskBytes, clocksBytes, orbitsBytes, contentsBytes, rowList, rowBytes}
 use Rattle.flat.proofs.StoreLaws.{store-two, store-whole, length-rows}

@@ -20,7 +20,7 @@ use Rattle.records.specs.declared.ura.Ura.{Ura}
 use Rattle.records.specs.declared.ura.Ura.the-variants.{Unknown, Quarters, Above}
 use Rattle.records.specs.declared.orbit.Orbit.{Orbit}
 use Rattle.records.specs.declared.clock.Clock.{Clock}
-use Rattle.message.specs.declared.parts.Contents.{Contents}
+use Rattle.contents.specs.declared.parts.Contents.{Contents}
 use Rattle.form.specs.Form.{kindOf, quartersIn, heldUra}
 use Rattle.flat.specs.Read.{flagAt, flagsAt, clockNth, clocksAt, orbitNth, orbitsAt, maskIn, clocksIn, orbitsIn, contentsOf}
 use Rattle.flat.specs.Write.{word, flagsOf, clockRow, orbitRow, rowsTo, maskHead, clockHead, orbitHead, maskBytes, clocksBytes, orbitsBytes, contentsBytes}

@@ -10,10 +10,10 @@ use Rattle.records.specs.Signed.{signedHalf}
 use Rattle.form.specs.Form.{heldUra}
 use Rattle.records.specs.declared.orbit.Orbit.{Orbit}
 use Rattle.records.specs.declared.clock.Clock.{Clock}
-use Rattle.message.specs.declared.parts.MaskPart.{MaskPart}
-use Rattle.message.specs.declared.parts.ClockPart.{ClockPart}
-use Rattle.message.specs.declared.parts.OrbitPart.{OrbitPart}
-use Rattle.message.specs.declared.parts.Contents.{Contents}
+use Rattle.contents.specs.declared.parts.MaskPart.{MaskPart}
+use Rattle.contents.specs.declared.parts.ClockPart.{ClockPart}
+use Rattle.contents.specs.declared.parts.OrbitPart.{OrbitPart}
+use Rattle.contents.specs.declared.parts.Contents.{Contents}
 
 -- the number that two bytes from `at` on say
 abbrev pub twoAt : List ℕ → ℕ → ℕ

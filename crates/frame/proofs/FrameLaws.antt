@@ -14,13 +14,13 @@ use Rattle.bits.specs.Some.{first}
 use Rattle.bits.proofs.TableLaws.{length-table}
 use Rattle.records.specs.Clock.{blankClock}
 use Rattle.records.specs.Orbit.{blankOrbit}
-use Rattle.message.specs.Layout.{orbitsFrom}
-use Rattle.message.specs.Parts.{maskBitAt, clockNth, orbitNth, maskPartAt, clockPartAt, orbitPartAt, layoutAt, maskBitsAt, clocksAt, orbitsAt, noMask, noClocks, noOrbits, maskIn, clocksIn, orbitsIn, contentsAt}
+use Rattle.contents.specs.Layout.{orbitsFrom}
+use Rattle.contents.specs.Parts.{maskBitAt, clockNth, orbitNth, maskPartAt, clockPartAt, orbitPartAt, layoutAt, maskBitsAt, clocksAt, orbitsAt, noMask, noClocks, noOrbits, maskIn, clocksIn, orbitsIn, contentsAt}
 use Rattle.message.specs.Judge.{isKind, tooLong, late, highSlot, twice, reservedBit, refusalOf}
-use Rattle.message.specs.declared.parts.MaskPart.{MaskPart}
-use Rattle.message.specs.declared.parts.ClockPart.{ClockPart}
-use Rattle.message.specs.declared.parts.OrbitPart.{OrbitPart}
-use Rattle.message.specs.declared.parts.Contents.{Contents}
+use Rattle.contents.specs.declared.parts.MaskPart.{MaskPart}
+use Rattle.contents.specs.declared.parts.ClockPart.{ClockPart}
+use Rattle.contents.specs.declared.parts.OrbitPart.{OrbitPart}
+use Rattle.contents.specs.declared.parts.Contents.{Contents}
 use Rattle.frame.specs.Frame.{contentsOf, shellRefusal, refusalWith}
 
 -- ---- the first that holds

@@ -8,10 +8,10 @@ use Rattle.bits.specs.Bits.{bitAt, fieldAt}
 use Rattle.bits.specs.Some.{first}
 use Rattle.check24.specs.Check.{checkOk}
 use Rattle.parity.specs.Parity.{parityOk}
-use Rattle.message.specs.Parts.{contentsAt}
+use Rattle.contents.specs.Parts.{contentsAt}
 use Rattle.message.specs.Judge.{refusalOf}
 use Rattle.message.specs.Read.{answer}
-use Rattle.message.specs.declared.parts.Contents.{Contents}
+use Rattle.contents.specs.declared.parts.Contents.{Contents}
 use Rattle.message.specs.declared.read.Reading.{Reading}
 
 -- 01: the satellite's PRN, after the sync

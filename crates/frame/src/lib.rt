@@ -1,11 +1,11 @@
 // Frames of 125 bytes, read without a ledger or for one PRN: 01, "What arrives and what is handled".
 ghost use mathlib.Core.Path.{_≡_};
 ghost use Rattle.frame.specs.Frame.{prnOf, shellRefusal, readFrame, readFor, readWith};
+use contents::parts::no_contents;
+use contents::read::contents_at;
 use message::judge::refusal_of;
-use message::parts::no_contents;
 use message::read::Reading;
 use message::read::answer_of;
-use message::read::contents_at;
 
 // The PRN that a frame carries; the bits past the end of a short one are 0.
 pub fn prn_of(f: &[u8]) -> u8

@@ -16,9 +16,9 @@ use Rattle.bits.specs.Pick.{pick}
 use Rattle.records.specs.Slots.{setCount, nthSet}
 use Rattle.records.specs.declared.orbit.Orbit.{Orbit}
 use Rattle.records.specs.declared.clock.Clock.{Clock}
-use Rattle.message.specs.declared.parts.ClockPart.{ClockPart}
-use Rattle.message.specs.declared.parts.OrbitPart.{OrbitPart}
-use Rattle.message.specs.declared.parts.Contents.{Contents}
+use Rattle.contents.specs.declared.parts.ClockPart.{ClockPart}
+use Rattle.contents.specs.declared.parts.OrbitPart.{OrbitPart}
+use Rattle.contents.specs.declared.parts.Contents.{Contents}
 use Rattle.frame.proofs.FrameLaws.{skipped}
 use Rattle.store.specs.Held.{putHelds, putHeld}
 use Rattle.form.proofs.FormLaws.{ClocksHeld, OrbitsHeld}

@@ -20,8 +20,8 @@ use Rattle.records.specs.declared.orbit.Orbit.{Orbit}
 use Rattle.records.specs.declared.clock.Clock.{Clock}
 use Rattle.records.proofs.SlotLaws.{nth-none, nth-rises}
 use Rattle.message.specs.Judge.{isSame, isAgain, clockSlots, orbitSlots}
-use Rattle.message.specs.declared.parts.ClockPart.{ClockPart}
-use Rattle.message.specs.declared.parts.OrbitPart.{OrbitPart}
+use Rattle.contents.specs.declared.parts.ClockPart.{ClockPart}
+use Rattle.contents.specs.declared.parts.OrbitPart.{OrbitPart}
 use Rattle.frame.specs.Frame.{contentsOf, foreignTo, refusalWith}
 use Rattle.frame.proofs.FrameLaws.{neither, no-test, parts-zero, sound, clocks-long, orbits-long}
 use Rattle.store.specs.Store.{Named}

@@ -13,8 +13,8 @@ use borrow.Author.Tests.{eq-eqb, ne-eqb}
 use Rattle.bits.specs.Pick.{pick}
 use Rattle.bits.specs.Bytes.{storeAt, Kept}
 use Rattle.bits.proofs.ByteLaws.{kept-same, kept-trans, kept-wide, kept-store}
-use Rattle.message.specs.declared.parts.MaskPart.{MaskPart}
-use Rattle.message.specs.declared.parts.Contents.{Contents}
+use Rattle.contents.specs.declared.parts.MaskPart.{MaskPart}
+use Rattle.contents.specs.declared.parts.Contents.{Contents}
 use Rattle.store.specs.Store.{Named, putAll, getOr, kept, unplaced}
 use Rattle.store.proofs.HeldLaws.{getD-helds}
 use Rattle.form.specs.Form.{size, clocksKept, clockOf, orbitOf, clocksAt, orbitsAt, putClock, putClocks, putOrbits, droppedClocks, noClock, noOrbit, clockAt, orbitAt}

@@ -6,8 +6,8 @@ use mathlib.Core.List.{List, [], _∷_}
 use lib.Dec.{eqb}
 use lib.ListN.{getD, set, length, take, drop, replicate}
 use Rattle.bits.specs.Pick.{pick}
-use Rattle.message.specs.declared.parts.MaskPart.{MaskPart}
-use Rattle.message.specs.declared.parts.Contents.{Contents}
+use Rattle.contents.specs.declared.parts.MaskPart.{MaskPart}
+use Rattle.contents.specs.declared.parts.Contents.{Contents}
 use Rattle.frame.specs.Frame.{contentsOf}
 use Rattle.form.specs.Form.{size, clockAt, putClocks, droppedClocks, orbitAt, putOrbits}
 use Rattle.mask.specs.Mask.{heldMask, sameMask, maskAt, putMask}

@@ -10,9 +10,9 @@ use Rattle.bits.specs.Some.{first}
 use Rattle.records.specs.Slots.{setCount, nthSet}
 use Rattle.records.specs.declared.orbit.Orbit.{Orbit}
 use Rattle.records.specs.declared.clock.Clock.{Clock}
-use Rattle.message.specs.declared.parts.ClockPart.{ClockPart}
-use Rattle.message.specs.declared.parts.OrbitPart.{OrbitPart}
-use Rattle.message.specs.declared.parts.Contents.{Contents}
+use Rattle.contents.specs.declared.parts.ClockPart.{ClockPart}
+use Rattle.contents.specs.declared.parts.OrbitPart.{OrbitPart}
+use Rattle.contents.specs.declared.parts.Contents.{Contents}
 use Rattle.frame.specs.Frame.{contentsOf, foreignTo, refusalWith}
 use Rattle.store.specs.Store.{Named}
 use Rattle.form.specs.declared.HeldClock.{HeldClock}

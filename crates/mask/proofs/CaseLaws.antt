@@ -8,7 +8,7 @@ use lib.ListN.{getD, length, drop, drop-of-length-le}
 use lib.Seq.{drop-cons}
 use native.Mathlib.Numerals.{add-one}
 use borrow.Author.Tests.{eq-eqb, ne-eqb}
-use Rattle.message.specs.declared.parts.MaskPart.{MaskPart}
+use Rattle.contents.specs.declared.parts.MaskPart.{MaskPart}
 use Rattle.mask.specs.Mask.{HeldMask, heldMask, sameBits, sameMask}
 
 drop-one : (l : List Bool) (i : ℕ) → i < length l → drop i l ≡ getD l i false ∷ drop (i + 1) l

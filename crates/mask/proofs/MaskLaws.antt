@@ -12,7 +12,7 @@ use Rattle.bits.specs.Bytes.{storeAt, Kept}
 use Rattle.bits.proofs.TableLaws.{length-table, getD-table, table-ext, table-same}
 use Rattle.bits.proofs.ByteLaws.{store-in, store-out, length-store, kept-trans, kept-store}
 use Rattle.store.specs.Digits.{flagOf}
-use Rattle.message.specs.declared.parts.MaskPart.{MaskPart}
+use Rattle.contents.specs.declared.parts.MaskPart.{MaskPart}
 use Rattle.mask.specs.Mask.{HeldMask, noMask, heldMask, bitAtSlot, sameBits, sameMask, bitsAt, maskAt, flagsOf, putMask}
 
 -- ---- the same is equal

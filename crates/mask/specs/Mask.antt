@@ -7,7 +7,7 @@ use lib.ListN.{getD}
 use Rattle.bits.specs.Bytes.{storeAt}
 use Rattle.bits.specs.Table.{table}
 use Rattle.store.specs.Digits.{flagOf}
-use Rattle.message.specs.declared.parts.MaskPart.{MaskPart}
+use Rattle.contents.specs.declared.parts.MaskPart.{MaskPart}
 
 -- 01, What the ledger keeps: a mask as it is held; entry i of its bits is that of slot i + 1
 pub record HeldMask : Type 0 where

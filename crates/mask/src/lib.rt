@@ -3,7 +3,7 @@ ghost use mathlib.Core.Path.{_≡_};
 ghost use lib.ListN.{getD};
 ghost use Rattle.records.specs.Slots.{setCount, nthSet};
 ghost use Rattle.mask.specs.Mask.{bitsAt, bitAtSlot, maskAt, heldMask, sameBits, sameMask, flagsOf, putMask};
-use message::parts::MaskPart;
+use contents::parts::MaskPart;
 use records::slots::Place;
 use records::slots::Slot;
 

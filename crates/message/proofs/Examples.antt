@@ -3,9 +3,9 @@ use mathlib.Core.Path.{_≡_, refl}
 use mathlib.Core.Bool.{false}
 use Rattle.records.specs.Ura.{uraOf}
 use Rattle.records.specs.declared.ura.Ura.the-variants.{Unknown, Quarters, Above}
-use Rattle.message.specs.Layout.{layoutOf, endOf}
+use Rattle.contents.specs.Layout.{layoutOf, endOf}
 use Rattle.message.specs.Judge.{refusalOf, tooLong}
-use Rattle.message.specs.declared.parts.Contents.{Contents}
+use Rattle.contents.specs.declared.parts.Contents.{Contents}
 
 -- type 6: NumC 22, NumO 0 ends at 446; 2 and 5 at 454; 3 and 5 at 472
 pub end-6-22-0 : endOf (layoutOf 6 22 0) ≡ 446

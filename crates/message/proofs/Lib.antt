@@ -1,3 +1,2 @@
-pub mod LayoutLaws
 pub mod ReadLaws
 pub mod Examples

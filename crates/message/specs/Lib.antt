@@ -1,4 +1,2 @@
-pub mod Layout
-pub mod Parts
 pub mod Judge
 pub mod Read

@@ -8,9 +8,9 @@ use Rattle.bits.specs.Pick.{pick}
 use Rattle.bits.specs.Bits.{fieldAt}
 use Rattle.bits.specs.Some.{first}
 use Rattle.check24.specs.Check.{checkOk}
-use Rattle.message.specs.Parts.{contentsAt, noContents}
+use Rattle.contents.specs.Parts.{contentsAt, noContents}
 use Rattle.message.specs.Judge.{refusalOf}
-use Rattle.message.specs.declared.parts.Contents.{Contents}
+use Rattle.contents.specs.declared.parts.Contents.{Contents}
 use Rattle.message.specs.declared.read.Verdict.{Verdict}
 use Rattle.message.specs.declared.read.Verdict.the-variants.{Taken, Refused}
 use Rattle.message.specs.declared.read.Reading.{Reading}

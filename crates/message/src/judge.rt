@@ -4,11 +4,11 @@ ghost use Prim.Native.Nat.{_+_, _<_};
 ghost use lib.ListN.{getD, drop, length};
 ghost use Rattle.bits.specs.Some.{some};
 ghost use Rattle.message.specs.Judge.{isHigh, isSame, isAgain, clockSlots, orbitSlots, isKind, late, badStart, highSlot, twice, reservedBit, tooLong, refusalOf};
-use crate::layout::end_of;
-use crate::layout::layout_of;
-use crate::parts::ClockPart;
-use crate::parts::Contents;
-use crate::parts::OrbitPart;
+use contents::layout::end_of;
+use contents::layout::layout_of;
+use contents::parts::ClockPart;
+use contents::parts::Contents;
+use contents::parts::OrbitPart;
 use records::clock::Clock;
 use records::orbit::Orbit;
 

@@ -1,5 +1,3 @@
-// Messages: what each type carries, what is wrong with contents, and reading at any bit offset.
+// Messages: what is wrong with contents, and the answer of reading.
 pub mod judge;
-pub mod layout;
-pub mod parts;
 pub mod read;

@@ -4,10 +4,10 @@ mod lines;
 mod place;
 
 ghost use Rattle.text.specs.Lines.{Inside};
+use contents::parts::Contents;
 use libc::STDERR_FILENO;
 use libc::STDIN_FILENO;
 use libc::STDOUT_FILENO;
-use message::parts::Contents;
 use message::read::Verdict;
 use place::Place;
 use text::lines::Lines;

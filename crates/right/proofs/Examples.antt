@@ -18,11 +18,11 @@ use Rattle.records.specs.declared.ura.Ura.the-variants.{Unknown, Quarters, Abov
 use Rattle.records.specs.declared.slots.System.the-variants.{BeiDou}
 use Rattle.records.specs.Orbit.{blankOrbit}
 use Rattle.records.specs.Clock.{blankClock}
-use Rattle.message.specs.Layout.{layoutOf, endOf}
+use Rattle.contents.specs.Layout.{layoutOf, endOf}
 use Rattle.message.specs.Judge.{refusalOf}
 use Rattle.message.proofs.Examples.{refused-6-3-5}
-use Rattle.message.specs.Parts.{noMask, noClocks, noOrbits}
-use Rattle.message.specs.declared.parts.Contents.{Contents}
+use Rattle.contents.specs.Parts.{noMask, noClocks, noOrbits}
+use Rattle.contents.specs.declared.parts.Contents.{Contents}
 use Rattle.frame.specs.Frame.{contentsOf, foreignTo, refusalWith}
 use Rattle.store.specs.Store.{naming, allSame}
 use Rattle.store.specs.Walk.{rowsFrom}

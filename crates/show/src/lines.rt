@@ -1,9 +1,9 @@
 // The line of a message's contents.
 ghost use Rattle.io.specs.Counts.{Counts};
-use message::parts::ClockPart;
-use message::parts::Contents;
-use message::parts::MaskPart;
-use message::parts::OrbitPart;
+use contents::parts::ClockPart;
+use contents::parts::Contents;
+use contents::parts::MaskPart;
+use contents::parts::OrbitPart;
 use records::clock::Clock;
 use records::orbit::Orbit;
 use text::put::place_in;

@@ -1,10 +1,10 @@
 // show [-f] FILE: one line for each message of 61 bytes, or for each frame of 125.
 mod lines;
 
+use contents::parts::Contents;
 use libc::STDERR_FILENO;
 use libc::STDIN_FILENO;
 use libc::STDOUT_FILENO;
-use message::parts::Contents;
 use message::read::Verdict;
 use text::put::put_byte;
 use text::put::put_bytes;

@@ -13,9 +13,9 @@ use borrow.Author.Tests.{eq-eqb, ne-eqb, lt-ltb, le-ltb, ltb-false, not-false}
 use Rattle.bits.specs.Some.{some}
 use Rattle.records.specs.Orbit.{blankOrbit, orbitWidths}
 use Rattle.records.specs.Clock.{blankClock, clockWidths}
-use Rattle.message.specs.Layout.{partWidths, endOf}
+use Rattle.contents.specs.Layout.{partWidths, endOf}
 use Rattle.message.specs.Judge.{clockSlots, orbitSlots, isKind, tooLong, late, isHigh, badStart, highSlot, isAgain, twice, isSet, reservedBit, refusalOf}
-use Rattle.message.specs.declared.parts.Contents.{Contents}
+use Rattle.contents.specs.declared.parts.Contents.{Contents}
 use Rattle.canon.specs.Canon.{layoutFor, canon}
 use Rattle.writing.specs.Fits.{clockRow, orbitRow, fitsAll}
 use Rattle.writing.specs.Limits.{Once, Limits}

@@ -14,11 +14,11 @@ use Rattle.bits.specs.Bits.{fieldAt, putAt, fieldsAt, putsAt, Within}
 use Rattle.bits.proofs.RowLaws.{fields-puts}
 use Rattle.records.specs.Orbit.{orbitWidths}
 use Rattle.records.specs.Clock.{clockWidths}
-use Rattle.message.specs.Layout.{partWidths, orbitsFrom, endOf}
-use Rattle.message.specs.Parts.{noMask, maskIn, clocksIn, orbitsIn, layoutAt, contentsAt}
+use Rattle.contents.specs.Layout.{partWidths, orbitsFrom, endOf}
+use Rattle.contents.specs.Parts.{noMask, maskIn, clocksIn, orbitsIn, layoutAt, contentsAt}
 use Rattle.message.specs.Judge.{refusalOf}
-use Rattle.message.specs.declared.layout.Layout.{Layout}
-use Rattle.message.specs.declared.parts.Contents.{Contents}
+use Rattle.contents.specs.declared.layout.Layout.{Layout}
+use Rattle.contents.specs.declared.parts.Contents.{Contents}
 use Rattle.canon.specs.Canon.{canonClocks, canonOrbits, layoutFor, canon}
 use Rattle.canon.proofs.KindLaws.{Headed, headed, Alone, alone, layout-same}
 use Rattle.writing.specs.Fits.{clockRow, orbitRow, fitsAll}

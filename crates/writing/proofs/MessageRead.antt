@@ -11,13 +11,13 @@ use borrow.Author.Tests.{eq-eqb}
 use Rattle.bits.specs.Bits.{bitAt, fieldAt}
 use Rattle.bits.proofs.TableLaws.{length-table}
 use Rattle.check24.specs.Check.{checkOk}
-use Rattle.message.specs.Parts.{noMask, maskBitAt, maskBitsAt, maskPartAt, maskIn, layoutAt, contentsAt}
+use Rattle.contents.specs.Parts.{noMask, maskBitAt, maskBitsAt, maskPartAt, maskIn, layoutAt, contentsAt}
 use Rattle.message.specs.Judge.{refusalOf}
 use Rattle.message.specs.Read.{numberOf, answer, readMessage}
-use Rattle.message.specs.declared.parts.MaskPart.{MaskPart}
-use Rattle.message.specs.declared.parts.Contents.{Contents}
+use Rattle.contents.specs.declared.parts.MaskPart.{MaskPart}
+use Rattle.contents.specs.declared.parts.Contents.{Contents}
 use Rattle.message.specs.declared.read.Verdict.the-variants.{Taken}
-use Rattle.message.proofs.LayoutLaws.{pick-all}
+use Rattle.contents.proofs.LayoutLaws.{pick-all}
 use Rattle.message.proofs.ReadLaws.{number-back, number-last}
 use Rattle.canon.specs.Canon.{layoutFor, canon}
 use Rattle.canon.proofs.CanonLaws.{canon-twice}

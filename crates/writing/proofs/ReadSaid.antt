@@ -17,13 +17,13 @@ use Rattle.records.specs.Clock.{blankClock, clockWidths, clockAt}
 use Rattle.records.specs.declared.orbit.Orbit.{Orbit}
 use Rattle.records.specs.declared.clock.Clock.{Clock}
 use Rattle.records.proofs.UraLaws.{code-back}
-use Rattle.message.specs.Layout.{partWidths, orbitsFrom}
-use Rattle.message.specs.Parts.{clockNth, clocksAt, orbitNth, orbitsAt, noMask, noClocks, noOrbits, maskPartAt, clockPartAt, orbitPartAt, maskIn, clocksIn, orbitsIn, layoutAt, contentsAt}
-use Rattle.message.specs.declared.layout.Layout.{Layout}
-use Rattle.message.specs.declared.parts.MaskPart.{MaskPart}
-use Rattle.message.specs.declared.parts.ClockPart.{ClockPart}
-use Rattle.message.specs.declared.parts.OrbitPart.{OrbitPart}
-use Rattle.message.proofs.LayoutLaws.{pick-all}
+use Rattle.contents.specs.Layout.{partWidths, orbitsFrom}
+use Rattle.contents.specs.Parts.{clockNth, clocksAt, orbitNth, orbitsAt, noMask, noClocks, noOrbits, maskPartAt, clockPartAt, orbitPartAt, maskIn, clocksIn, orbitsIn, layoutAt, contentsAt}
+use Rattle.contents.specs.declared.layout.Layout.{Layout}
+use Rattle.contents.specs.declared.parts.MaskPart.{MaskPart}
+use Rattle.contents.specs.declared.parts.ClockPart.{ClockPart}
+use Rattle.contents.specs.declared.parts.OrbitPart.{OrbitPart}
+use Rattle.contents.proofs.LayoutLaws.{pick-all}
 use Rattle.canon.proofs.CanonLaws.{layout-read}
 use Rattle.writing.specs.Fits.{clockVals, orbitVals, headVals, clockRow, orbitRow, fitsAll}
 use Rattle.writing.proofs.RawLaws.{raw-or-read}

@@ -5,9 +5,9 @@ use mathlib.Core.List.{List}
 use Prim.Native.Nat.{ℕ, _<_}
 use lib.ListN.{length}
 use Rattle.bits.specs.Bits.{bitAt}
-use Rattle.message.specs.Parts.{contentsAt}
+use Rattle.contents.specs.Parts.{contentsAt}
 use Rattle.message.specs.Read.{answer, readMessage}
-use Rattle.message.specs.declared.parts.Contents.{Contents}
+use Rattle.contents.specs.declared.parts.Contents.{Contents}
 use Rattle.message.specs.declared.read.Reading.{Reading}
 use Rattle.message.specs.declared.read.Verdict.the-variants.{Taken}
 use Rattle.canon.specs.Canon.{canon}

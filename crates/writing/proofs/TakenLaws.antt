@@ -8,11 +8,11 @@ use native.Mathlib.Decide.{ℕ-discrete, decLt}
 use native.Mathlib.Omega.{arith}
 use borrow.Author.Tests.{eq-eqb, ne-eqb, ltb-false, not-false}
 use Rattle.bits.specs.Pick.{pick}
-use Rattle.message.specs.Layout.{layoutOf, orbitsFrom, endOf}
+use Rattle.contents.specs.Layout.{layoutOf, orbitsFrom, endOf}
 use Rattle.message.specs.Judge.{isKind, tooLong, refusalOf}
-use Rattle.message.specs.declared.layout.Layout.{Layout}
-use Rattle.message.specs.declared.parts.Contents.{Contents}
-use Rattle.message.proofs.LayoutLaws.{pick-all, from-some, layout-narrow}
+use Rattle.contents.specs.declared.layout.Layout.{Layout}
+use Rattle.contents.specs.declared.parts.Contents.{Contents}
+use Rattle.contents.proofs.LayoutLaws.{pick-all, from-some, layout-narrow}
 use Rattle.canon.specs.Canon.{layoutFor}
 use Rattle.canon.proofs.KindLaws.{headed}
 use Rattle.writing.specs.Fits.{fitsAll}

@@ -17,11 +17,11 @@ use Rattle.bits.proofs.PutLaws.{bit-set-same, bit-set-other}
 use Rattle.bits.proofs.TableLaws.{getD-table}
 use Rattle.records.specs.Orbit.{orbitWidths}
 use Rattle.records.specs.Clock.{clockWidths}
-use Rattle.message.specs.Layout.{partWidths, orbitsFrom, endOf}
-use Rattle.message.specs.Parts.{noMask, maskBitAt, maskBitsAt, maskPartAt, maskIn, clocksIn, orbitsIn, layoutAt, contentsAt}
-use Rattle.message.specs.declared.layout.Layout.{Layout}
-use Rattle.message.specs.declared.parts.MaskPart.{MaskPart}
-use Rattle.message.proofs.LayoutLaws.{pick-all, clock-total}
+use Rattle.contents.specs.Layout.{partWidths, orbitsFrom, endOf}
+use Rattle.contents.specs.Parts.{noMask, maskBitAt, maskBitsAt, maskPartAt, maskIn, clocksIn, orbitsIn, layoutAt, contentsAt}
+use Rattle.contents.specs.declared.layout.Layout.{Layout}
+use Rattle.contents.specs.declared.parts.MaskPart.{MaskPart}
+use Rattle.contents.proofs.LayoutLaws.{pick-all, clock-total}
 use Rattle.canon.specs.Canon.{layoutFor}
 use Rattle.canon.proofs.CanonLaws.{layout-read}
 use Rattle.canon.proofs.KindLaws.{Headed, headed, counted}

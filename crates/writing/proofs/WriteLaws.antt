@@ -7,8 +7,8 @@ use lib.ListN.{length, replicate}
 use native.Mathlib.Decide.{ℕ-discrete}
 use native.Mathlib.Omega.{arith}
 use borrow.Author.Tests.{eq-eqb, ne-eqb}
-use Rattle.message.specs.declared.layout.Layout.{Layout}
-use Rattle.message.specs.declared.parts.Contents.{Contents}
+use Rattle.contents.specs.declared.layout.Layout.{Layout}
+use Rattle.contents.specs.declared.parts.Contents.{Contents}
 use Rattle.message.proofs.ReadLaws.{number-last}
 use Rattle.canon.specs.Canon.{layoutFor, canon}
 use Rattle.writing.specs.Write.{partsPut, checkPut, messageOf, contentRefusal, writeRefusal, written}

@@ -13,8 +13,8 @@ use Rattle.records.specs.Orbit.{blankOrbit, orbitWidths}
 use Rattle.records.specs.Clock.{blankClock, clockWidths}
 use Rattle.records.specs.declared.orbit.Orbit.{Orbit}
 use Rattle.records.specs.declared.clock.Clock.{Clock}
-use Rattle.message.specs.Layout.{partWidths}
-use Rattle.message.specs.declared.parts.Contents.{Contents}
+use Rattle.contents.specs.Layout.{partWidths}
+use Rattle.contents.specs.declared.parts.Contents.{Contents}
 use Rattle.canon.specs.Canon.{layoutFor}
 
 -- a row of at most eight, filled up with zeros

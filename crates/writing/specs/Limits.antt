@@ -13,9 +13,9 @@ use Rattle.records.specs.declared.ura.Ura.{Ura}
 use Rattle.records.specs.declared.ura.Ura.the-variants.{Unknown, Quarters, Above}
 use Rattle.records.specs.declared.orbit.Orbit.{Orbit}
 use Rattle.records.specs.declared.clock.Clock.{Clock}
-use Rattle.message.specs.Layout.{endOf}
+use Rattle.contents.specs.Layout.{endOf}
 use Rattle.message.specs.Judge.{isKind}
-use Rattle.message.specs.declared.parts.Contents.{Contents}
+use Rattle.contents.specs.declared.parts.Contents.{Contents}
 use Rattle.canon.specs.Canon.{layoutFor}
 
 -- 01: two's complement of n bits, the whole range: from -2 ^ (n - 1), which is -1 - (2 ^ (n - 1) - 1), to 2 ^ (n - 1) - 1

@@ -10,13 +10,13 @@ use Rattle.bits.specs.Some.{first}
 use Rattle.check24.specs.Check.{checkOf}
 use Rattle.records.specs.Orbit.{orbitWidths}
 use Rattle.records.specs.Clock.{clockWidths}
-use Rattle.message.specs.Layout.{partWidths, orbitsFrom}
+use Rattle.contents.specs.Layout.{partWidths, orbitsFrom}
 use Rattle.message.specs.Judge.{refusalOf}
-use Rattle.message.specs.declared.layout.Layout.{Layout}
-use Rattle.message.specs.declared.parts.MaskPart.{MaskPart}
-use Rattle.message.specs.declared.parts.ClockPart.{ClockPart}
-use Rattle.message.specs.declared.parts.OrbitPart.{OrbitPart}
-use Rattle.message.specs.declared.parts.Contents.{Contents}
+use Rattle.contents.specs.declared.layout.Layout.{Layout}
+use Rattle.contents.specs.declared.parts.MaskPart.{MaskPart}
+use Rattle.contents.specs.declared.parts.ClockPart.{ClockPart}
+use Rattle.contents.specs.declared.parts.OrbitPart.{OrbitPart}
+use Rattle.contents.specs.declared.parts.Contents.{Contents}
 use Rattle.canon.specs.Canon.{layoutFor, canon}
 use Rattle.writing.specs.Fits.{headVals, clockRow, orbitRow, fitsAll}
 

@@ -1,7 +1,7 @@
 use borrow.Author.Needs.{needs}
 use mathlib.Core.Path.{ap, _∙_}
 use Rattle.message.specs.Read.{numberOf, verdictOf}
-use Rattle.message.specs.declared.parts.Contents.{Contents}
+use Rattle.contents.specs.declared.parts.Contents.{Contents}
 use Rattle.writing.specs.Write.{writeRefusal, written}
 use Rattle.clib.proofs.BoundaryLaws.{write-size, write-right}
 use Rattle.clib.proofs.qvd_write.Statement.{statement}

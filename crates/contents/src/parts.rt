@@ -1,0 +1,97 @@
+// The parts of a message, and a message's contents.
+ghost use mathlib.Core.Path.{_≡_};
+ghost use Rattle.contents.specs.Parts.{noMask, noClocks, noOrbits, noContents};
+use records::clock::Clock;
+use records::orbit::Orbit;
+
+// Type 1: entry i of bits is the bit of slot i + 1.
+pub struct MaskPart {
+    pub epoch: u32,
+    pub ssr: u8,
+    pub iodp: u8,
+    pub bits: [bool; 255],
+}
+
+// Types 4, 6 and 7: start is the sub-type in type 4, Slot_S in type 6.
+pub struct ClockPart {
+    pub epoch: u32,
+    pub ssr: u8,
+    pub iodp: u8,
+    pub start: u16,
+    pub count: u8,
+    pub clocks: [Clock; 23],
+}
+
+// Types 2, 6 and 7.
+pub struct OrbitPart {
+    pub epoch: u32,
+    pub ssr: u8,
+    pub count: u8,
+    pub orbits: [Orbit; 6],
+}
+
+// What a message says. A part that its type lacks is all zero.
+pub struct Contents {
+    pub kind: u8,
+    pub mask: MaskPart,
+    pub clock: ClockPart,
+    pub orbit: OrbitPart,
+}
+
+// An absent mask part.
+pub fn no_mask() -> MaskPart
+    ensures { λ r. ⌜ r ≡ noMask ⌝ }
+{
+    let bits = [false; 255];
+    MaskPart {
+        epoch: 0,
+        ssr: 0,
+        iodp: 0,
+        bits,
+    }
+}
+
+// An absent clock part.
+pub fn no_clocks() -> ClockPart
+    ensures { λ r. ⌜ r ≡ noClocks ⌝ }
+{
+    let k = records::clock::blank_clock();
+    let clocks = [k; 23];
+    ClockPart {
+        epoch: 0,
+        ssr: 0,
+        iodp: 0,
+        start: 0,
+        count: 0,
+        clocks,
+    }
+}
+
+// An absent orbit part.
+pub fn no_orbits() -> OrbitPart
+    ensures { λ r. ⌜ r ≡ noOrbits ⌝ }
+{
+    let o = records::orbit::blank_orbit();
+    let orbits = [o; 6];
+    OrbitPart {
+        epoch: 0,
+        ssr: 0,
+        count: 0,
+        orbits,
+    }
+}
+
+// All-zero contents: what a refusal has.
+pub fn no_contents() -> Contents
+    ensures { λ r. ⌜ r ≡ noContents ⌝ }
+{
+    let mask = no_mask();
+    let clock = no_clocks();
+    let orbit = no_orbits();
+    Contents {
+        kind: 0,
+        mask,
+        clock,
+        orbit,
+    }
+}

@@ -1,0 +1,210 @@
+// Reading: the contents of a message that begins at any bit.
+ghost use mathlib.Core.Path.{_≡_};
+ghost use Prim.Native.Nat.{_+_, _<_, _≤_};
+ghost use Rattle.contents.specs.Parts.{clockNth, clocksAt, orbitNth, orbitsAt, maskBitAt, maskBitsAt, maskPartAt, clockPartAt, orbitPartAt, maskIn, clocksIn, orbitsIn, contentsAt};
+use crate::layout::Layout;
+use crate::layout::layout_of;
+use crate::layout::orbits_from;
+use crate::parts::ClockPart;
+use crate::parts::Contents;
+use crate::parts::MaskPart;
+use crate::parts::OrbitPart;
+use crate::parts::no_clocks;
+use crate::parts::no_mask;
+use crate::parts::no_orbits;
+use records::clock::Clock;
+use records::clock::blank_clock;
+use records::clock::clock_at;
+use records::orbit::Orbit;
+use records::orbit::blank_orbit;
+use records::orbit::orbit_at;
+
+// Clock record i, from 0, of a row of them; blank past the count.
+fn nth_clock(s: &[u8], at: u32, slotted: bool, count: u8, i: u32) -> Clock
+    requires { ⌜ (at < 100000) × (i < 23) ⌝ }
+    ensures { λ r. ⌜ r ≡ clockNth slotted (now (s .entry)) at count i ⌝ }
+{
+    if i >= count as u32 {
+        return blank_clock();
+    }
+    let each: u32 = if slotted { 27 } else { 18 };
+    clock_at(s, at + each * i, slotted)
+}
+
+// 23 clock records in a row, those past the count blank.
+fn read_clocks(s: &[u8], at: u32, slotted: bool, count: u8) -> [Clock; 23]
+    requires { ⌜ at < 100000 ⌝ }
+    ensures { λ r. ⌜ r ≡ clocksAt slotted (now (s .entry)) at count ⌝ }
+{
+    let mut out = [blank_clock(); 23];
+    let mut i: u32 = 0;
+    while i < 23 {
+        out[i as usize] = nth_clock(s, at, slotted, count, i);
+        i += 1;
+    }
+    out
+}
+
+// Orbit record i, from 0, of a row of them; blank past the count.
+fn nth_orbit(s: &[u8], at: u32, count: u8, i: u32) -> Orbit
+    requires { ⌜ (at < 100000) × (i < 6) ⌝ }
+    ensures { λ r. ⌜ r ≡ orbitNth (now (s .entry)) at count i ⌝ }
+{
+    if i < count as u32 {
+        orbit_at(s, at + 69 * i)
+    } else {
+        blank_orbit()
+    }
+}
+
+// Six orbit records in a row, those past the count blank.
+fn read_orbits(s: &[u8], at: u32, count: u8) -> [Orbit; 6]
+    requires { ⌜ at < 100000 ⌝ }
+    ensures { λ r. ⌜ r ≡ orbitsAt (now (s .entry)) at count ⌝ }
+{
+    let mut out = [blank_orbit(); 6];
+    let mut i: u32 = 0;
+    while i < 6 {
+        out[i as usize] = nth_orbit(s, at, count, i);
+        i += 1;
+    }
+    out
+}
+
+// Whether the mask has the bit of slot i + 1.
+fn mask_bit(s: &[u8], at: u32, i: u32) -> bool
+    requires { ⌜ (at < 100000) × (i < 255) ⌝ }
+    ensures { λ r. ⌜ r ≡ maskBitAt (now (s .entry)) at i ⌝ }
+{
+    let a = at as usize + i as usize;
+    bits::bit(s, a) == 1
+}
+
+// The mask's 255 bits.
+fn read_bits(s: &[u8], at: u32) -> [bool; 255]
+    requires { ⌜ at < 100000 ⌝ }
+    ensures { λ r. ⌜ r ≡ maskBitsAt (now (s .entry)) at ⌝ }
+{
+    let mut out = [false; 255];
+    let mut i: u32 = 0;
+    while i < 255 {
+        out[i as usize] = mask_bit(s, at, i);
+        i += 1;
+    }
+    out
+}
+
+// The mask part from bit at on.
+fn read_mask_part(s: &[u8], at: u32) -> MaskPart
+    requires { ⌜ at < 50000 ⌝ }
+    ensures { λ r. ⌜ r ≡ maskPartAt (now (s .entry)) at ⌝ }
+{
+    let a = at as usize;
+    let epoch = bits::get32(s, a, 17);
+    let ssr = bits::get8(s, a + 17 + 4, 2);
+    let iodp = bits::get8(s, a + 17 + 4 + 2, 4);
+    let bits = read_bits(s, at + 27);
+    MaskPart {
+        epoch,
+        ssr,
+        iodp,
+        bits,
+    }
+}
+
+// The clock part from bit at on.
+fn read_clock_part(s: &[u8], at: u32, l: Layout) -> ClockPart
+    requires { ⌜ (at < 50000) × (l .iodp ≤ 4) × (l .start ≤ 9) ⌝ }
+    ensures { λ r. ⌜ r ≡ clockPartAt (now (s .entry)) at l ⌝ }
+{
+    let a = at as usize;
+    let p = l.iodp as usize;
+    let w = l.start as usize;
+    let from = at + (23 + l.iodp as u32 + l.start as u32);
+    let epoch = bits::get32(s, a, 17);
+    let ssr = bits::get8(s, a + 17 + 4, 2);
+    let iodp = bits::get8(s, a + 17 + 4 + 2, p);
+    let start = bits::get16(s, a + 17 + 4 + 2 + p, w);
+    let clocks = read_clocks(s, from, l.slotted, l.clocks);
+    ClockPart {
+        epoch,
+        ssr,
+        iodp,
+        start,
+        count: l.clocks,
+        clocks,
+    }
+}
+
+// The orbit part from bit at on.
+fn read_orbit_part(s: &[u8], at: u32, l: Layout) -> OrbitPart
+    requires { ⌜ at < 50000 ⌝ }
+    ensures { λ r. ⌜ r ≡ orbitPartAt (now (s .entry)) at l ⌝ }
+{
+    let a = at as usize;
+    let epoch = bits::get32(s, a, 17);
+    let ssr = bits::get8(s, a + 17 + 4, 2);
+    let orbits = read_orbits(s, at + 23, l.orbits);
+    OrbitPart {
+        epoch,
+        ssr,
+        count: l.orbits,
+        orbits,
+    }
+}
+
+// The mask part of a message that begins at bit at.
+fn mask_in(s: &[u8], at: u8, l: Layout) -> MaskPart
+    ensures { λ r. ⌜ r ≡ maskIn (now (s .entry)) at l ⌝ }
+{
+    if l.mask {
+        read_mask_part(s, at as u32 + l.head as u32)
+    } else {
+        no_mask()
+    }
+}
+
+// The clock part of a message that begins at bit at.
+fn clocks_in(s: &[u8], at: u8, l: Layout) -> ClockPart
+    requires { ⌜ (l .iodp ≤ 4) × (l .start ≤ 9) ⌝ }
+    ensures { λ r. ⌜ r ≡ clocksIn (now (s .entry)) at l ⌝ }
+{
+    if l.clocks == 0 {
+        no_clocks()
+    } else {
+        read_clock_part(s, at as u32 + l.head as u32, l)
+    }
+}
+
+// The orbit part of a message that begins at bit at.
+fn orbits_in(s: &[u8], at: u8, l: Layout) -> OrbitPart
+    requires { ⌜ (l .iodp ≤ 4) × (l .start ≤ 9) ⌝ }
+    ensures { λ r. ⌜ r ≡ orbitsIn (now (s .entry)) at l ⌝ }
+{
+    let from = at as u32 + orbits_from(l);
+    if l.orbits == 0 {
+        no_orbits()
+    } else {
+        read_orbit_part(s, from, l)
+    }
+}
+
+// The contents of the message that begins at bit at, its check and its limits left aside.
+pub fn contents_at(s: &[u8], at: u8) -> Contents
+    ensures { λ r. ⌜ r ≡ contentsAt (now (s .entry)) at ⌝ }
+{
+    let a = at as usize;
+    let kind = bits::get8(s, a, 6);
+    let numc = bits::get8(s, a + 6, 5);
+    let numo = bits::get8(s, a + 6 + 5, 3);
+    let l = layout_of(kind, numc, numo);
+    let mask = mask_in(s, at, l);
+    let clock = clocks_in(s, at, l);
+    let orbit = orbits_in(s, at, l);
+    Contents {
+        kind,
+        mask,
+        clock,
+        orbit,
+    }
+}
