@@ -1,0 +1,4 @@
+pub mod WindowLaws
+pub mod BurstLaws
+pub mod Caught
+pub mod Examples
