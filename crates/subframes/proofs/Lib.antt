@@ -1,0 +1,5 @@
+pub mod LoopLaws
+pub mod AnswerLaws
+pub mod ByteBack
+pub mod RoundTrip
+pub mod Examples

@@ -1,0 +1,4 @@
+pub mod OverLaws
+pub mod CodeLaws
+pub mod WordLaws
+pub mod Examples
