@@ -64,10 +64,11 @@ enum {
     QVD_TWICE = 12,         /* one slot twice among orbit records, or among type 7 clock records */
     QVD_RESERVED_SLOT = 13, /* mask bit set in 175 to 255 */
     QVD_MASK = 14,          /* no mask in force, or its IOD SSR or IODP differ */
-    QVD_PLACE = 15,         /* no satellite has the place */
+    QVD_PLACE = 15,         /* type 4: no satellite has the sub-type's first place */
     QVD_FIELD = 16,         /* writing: a field exceeds its width, or no URA code gives the quarters */
     QVD_ISSUE = 17,         /* an issue is neither 0 to 1023 nor 65535 */
     QVD_NO_ROW = 18,        /* the slot does not qualify */
+    QVD_LAST_PLACE = 19,    /* type 6: no satellite has the last place from Slot_S on */
     QVD_LENGTH = 39         /* a ledger, contents, rows or verdicts of another length than here */
 };
 
@@ -116,8 +117,17 @@ enum { QVD_URA_UNKNOWN = 0, QVD_URA_QUARTERS = 1, QVD_URA_ABOVE = 2 };
 /* Makes the n bytes a fresh ledger for a PRN, whatever they held. 4, 39. */
 uint8_t qvd_open(uint8_t *ledger, size_t n, uint8_t prn);
 
-/* Takes one frame, whole or not at all. 1, 3 to 15, 39. */
+/* Takes one frame, whole or not at all. 1, 3 to 15, 19, 39. */
 uint8_t qvd_take(uint8_t *ledger, size_t n, const uint8_t *frame, size_t m);
+
+/* Takes one frame as qvd_take does, and says more about two refusals. What
+ * qvd_take would return is the answer modulo 256. 1, 3 to 15, 19, 39.
+ *      6 + 256 * first + 65536 * failing   first: the first parity group that is
+ *          not zero, 1 to 81, down each column of the interface document's print,
+ *          columns left to right; failing: how many of the 81 are not zero
+ *     19 + 256 * set   set: the number of set bits of the mask in force
+ * Any other answer is the number alone. */
+uint32_t qvd_take_detail(uint8_t *ledger, size_t n, const uint8_t *frame, size_t m);
 
 /* Makes a fresh ledger for a PRN and takes the frames of a log of m bytes in
  * order: pieces of 125 bytes, and what is left at the end as one more frame.

@@ -7,7 +7,7 @@ outside=$root/tests/outside
 flags="-std=gnu11 -O2 -Wall -Wextra -Wpedantic -Wconversion -Wshadow -Wstrict-prototypes -Wmissing-prototypes"
 
 # The calls of the library's C boundary.
-boundary="qvd_open qvd_take qvd_replay qvd_rows qvd_row qvd_read qvd_read_frame qvd_write"
+boundary="qvd_open qvd_take qvd_take_detail qvd_replay qvd_rows qvd_row qvd_read qvd_read_frame qvd_write"
 
 # install_missing COMMAND PACKAGE..: installs Debian packages if the command is missing.
 install_missing() {

@@ -1,7 +1,7 @@
 /* Makes many messages, frames, logs and contents from a fixed seed, good and
  * damaged, hands them to the library and to the independent implementation,
- * and compares verdicts, contents, written bytes, rows, and that what was lent
- * stays as it was on a refusal.
+ * and compares verdicts and what they give beside their number, contents,
+ * written bytes, rows, and that what was lent stays as it was on a refusal.
  *
  *   compare [SEED [PERCENT]]    PERCENT of the standard run's size, 100 if not given
  *
@@ -82,13 +82,18 @@ static uint8_t *input_end, *output_end, *ledger_end, *log_end, *verdicts_end, *i
 
 /* ---- what is being compared, and the first difference in full ---- */
 
-enum call { OPEN, TAKE, REPLAY, READ, READ_FRAME, WRITE, ROWS, ROW, CALLS };
-static const char *const call_name[CALLS] = { "open", "take", "replay", "read", "read_frame", "write", "rows", "row" };
+enum call { OPEN, TAKE, TAKE_DETAIL, REPLAY, READ, READ_FRAME, WRITE, ROWS, ROW, CALLS };
+static const char *const call_name[CALLS] = {
+    "open", "take", "take_detail", "replay", "read", "read_frame", "write", "rows", "row"
+};
 
 enum { MOST_VERDICT = 40, WANTED = 500 };
 static unsigned long tally[CALLS][MOST_VERDICT];
 static unsigned long comparisons, differences;
 static unsigned long lists_with_rows, rows_seen, masks_changed, frames_noise;
+
+/* What came beside the numbers 6 and 19. */
+static bool first_seen[GROUPS + 1], failing_seen[GROUPS + 1], places_seen[SLOTS + 1];
 
 static struct {
     const char *part;      /* of the run */
@@ -128,7 +133,7 @@ static void print_case(const char *what)
     printf("compare: first difference: %s %lu, qvd_%s: %s\n", now.part, now.number, call_name[now.call], what);
     if (now.call == ROW)
         printf("  slot %u\n", now.slot);
-    if (now.call == OPEN || now.call == TAKE || now.call == REPLAY || now.log != NULL)
+    if (now.call == OPEN || now.call == TAKE || now.call == TAKE_DETAIL || now.call == REPLAY || now.log != NULL)
         printf("  prn %u\n", now.prn);
     if (now.input != NULL)
         print_bytes("input", now.input, now.input_bytes);
@@ -404,8 +409,8 @@ static void put_type_6(const struct leaning *l)
     if (l->places >= num_c) {
         unsigned last_first = l->places - num_c + 1;
         first = chance(35) ? last_first : between(1, last_first);
-        if (slip(10))
-            first = last_first + 1;
+        if (slip(50))
+            first = chance(70) ? last_first + 1 : between(last_first + 1, SLOTS);
     }
     if (slip(8))
         first = chance(50) ? 0 : chance(50) ? 256 : between(256, 511);
@@ -993,22 +998,31 @@ static bool compare_open(unsigned prn)
     return reference == 0;
 }
 
-static void compare_take(const uint8_t *frame, size_t m)
+/* By qvd_take or, with `detailed`, by qvd_take_detail. */
+static void compare_take(const uint8_t *frame, size_t m, bool detailed)
 {
     uint8_t *input = input_end - m;
     size_t n = some_ledger_length();
-    unsigned library, reference = 39;
+    struct detail detail = { 0 };
+    uint32_t library;
+    unsigned reference = 39;
 
     memcpy(input, frame, m);
-    now.call = TAKE;
+    now.call = detailed ? TAKE_DETAIL : TAKE;
     now.input = input;
     now.input_bytes = m;
     now.issues = NULL;
     remember_ledger();
-    library = qvd_take(ledger, n, input, m);
+    library = detailed ? qvd_take_detail(ledger, n, input, m) : qvd_take(ledger, n, input, m);
     if (n == QVD_LEDGER_BYTES)
-        reference = ref_take(&reference_ledger, frame, m);
-    same_verdict(TAKE, library, reference);
+        reference = ref_take_detail(&reference_ledger, frame, m, &detail);
+    if (detailed) {
+        same_number("verdict and what it gives beside its number", library, detail_to_number(reference, &detail));
+        tally[TAKE_DETAIL][reference]++;
+        first_seen[detail.first] = failing_seen[detail.failing] = places_seen[detail.places] = true;
+    } else {
+        same_verdict(TAKE, library, reference);
+    }
     if (reference != 0)
         ledger_is_unchanged();
     else
@@ -1159,6 +1173,7 @@ static void compare_log(unsigned long number, unsigned length)
     unsigned prn = ten[below(10)];
     unsigned faulty = chance(30) ? 0 : chance(70) ? 25 : 60, damaged = chance(30) ? 0 : 12;
     bool mask_first = chance(90);
+    unsigned detailed = chance(40) ? 0 : chance(50) ? 50 : 100; /* percent of the frames */
 
     now.number = number;
     now.log = handed;
@@ -1176,7 +1191,7 @@ static void compare_log(unsigned long number, unsigned length)
         ref_encode(draft.bytes, prn, chance(80) ? 0 : below(32), bytes);
         if (i > 0 && chance(damaged))
             n = damage(bytes, sizeof bytes);
-        compare_take(bytes, n);
+        compare_take(bytes, n, chance(detailed));
         handed[handed_bytes] = (uint8_t)(n >> 8);
         handed[handed_bytes + 1] = (uint8_t)n;
         memcpy(handed + handed_bytes + 2, bytes, n);
@@ -1260,7 +1275,8 @@ static void compare_opens(unsigned rounds)
  * replay's frames have all been taken one by one before.) */
 static const uint8_t gives[CALLS][16] = {
     [OPEN] = { 4 },
-    [TAKE] = { 1, 3, 4, 5, 6, 7, 8, 9, 10, 11, 12, 13, 14, 15 },
+    [TAKE] = { 1, 3, 4, 5, 6, 7, 8, 9, 10, 11, 12, 13, 14, 15, 19 },
+    [TAKE_DETAIL] = { 1, 3, 4, 5, 6, 7, 8, 9, 10, 11, 12, 13, 14, 15, 19 },
     [READ] = { 1, 2, 7, 8, 9, 10, 11, 12, 13 },
     [READ_FRAME] = { 1, 3, 5, 6, 7, 8, 9, 10, 11, 12, 13 },
     [WRITE] = { 1, 8, 9, 10, 11, 12, 13, 16 },
@@ -1276,12 +1292,21 @@ static unsigned long calls_of(enum call call)
     return sum;
 }
 
+/* How many of the numbers 1 to `most` were seen. */
+static unsigned count_seen(const bool *seen, int most)
+{
+    unsigned count = 0;
+    for (int i = 1; i <= most; i++)
+        count += seen[i];
+    return count;
+}
+
 static void print_table(void)
 {
     printf("%-8s", "refusal");
     for (int c = 0; c < CALLS; c++)
-        printf(" %10s", call_name[c]);
-    printf(" %10s\n", "all");
+        printf(" %11s", call_name[c]);
+    printf(" %11s\n", "all");
     for (int v = 0; v < MOST_VERDICT; v++) {
         unsigned long all = 0;
         for (int c = 0; c < CALLS; c++)
@@ -1293,14 +1318,16 @@ static void print_table(void)
         else
             printf("%-8d", v);
         for (int c = 0; c < CALLS; c++)
-            printf(" %10lu", tally[c][v]);
-        printf(" %10lu\n", all);
+            printf(" %11lu", tally[c][v]);
+        printf(" %11lu\n", all);
     }
     printf("%-8s", "all");
     for (int c = 0; c < CALLS; c++)
-        printf(" %10lu", calls_of((enum call)c));
+        printf(" %11lu", calls_of((enum call)c));
     printf("\n%lu mask changes, %lu frames of noise, %lu lists with rows, %lu rows\n", masks_changed, frames_noise,
            lists_with_rows, rows_seen);
+    printf("beside 6 and 19: %u first groups, %u numbers of failing groups, %u numbers of places\n",
+           count_seen(first_seen, GROUPS), count_seen(failing_seen, GROUPS), count_seen(places_seen, SLOTS));
 }
 
 /* Whether something that the run is to show came too seldom. */
@@ -1314,7 +1341,12 @@ static bool too_few(void)
                        tally[c][gives[c][i]]);
                 few = true;
             }
-    if (calls_of(TAKE) < 100000 || calls_of(READ) < 100000 || calls_of(WRITE) < 50000 || lists_with_rows < 10000) {
+    if (count_seen(first_seen, GROUPS) < GROUPS) {
+        printf("compare: not every parity group was the first to fail\n");
+        few = true;
+    }
+    if (calls_of(TAKE) < 100000 || calls_of(TAKE_DETAIL) < 50000 || calls_of(READ) < 100000 ||
+        calls_of(WRITE) < 50000 || lists_with_rows < 10000) {
         printf("compare: fewer frames, messages or lists than the standard run has\n");
         few = true;
     }

@@ -1,6 +1,7 @@
 /* The worked examples of the rules, and the code word of the interface
  * document's appendix, held against the independent implementation; the whole
- * list also against the library, through its C boundary. */
+ * list, and what refusals give beside their number, also against the library,
+ * through its C boundary. */
 #include "library.h"
 #include "ref.h"
 
@@ -47,18 +48,36 @@ static void field(void)
         CHECK(ref_times((uint8_t)a, 0) == 0 && ref_times(0, (uint8_t)a) == 0);
 }
 
+/* The failing groups where one symbol of the code word is damaged. */
+static uint8_t damaged(int which, uint8_t *first)
+{
+    uint8_t symbol[SYMBOLS];
+    memcpy(symbol, code_word, sizeof symbol);
+    symbol[which] ^= 1;
+    return ref_failing(symbol, first);
+}
+
 static void parity(void)
 {
-    uint8_t message[MESSAGE_BYTES] = { 0 }, frame[FRAME_BYTES], symbol[SYMBOLS];
+    uint8_t message[MESSAGE_BYTES] = { 0 }, frame[FRAME_BYTES], symbol[SYMBOLS], first;
     struct contents c;
+    struct detail d;
 
-    CHECK(ref_parity(code_word));
+    CHECK(ref_failing(code_word, &first) == 0 && first == 0);
     for (int i = 0; i < SYMBOLS; i++)
         for (unsigned v = 1; v < 64; v++) {
             memcpy(symbol, code_word, sizeof symbol);
             symbol[i] ^= (uint8_t)v;
-            CHECK(!ref_parity(symbol));
+            CHECK(ref_failing(symbol, &first) > 0 && first > 0);
         }
+    /* The print has columns of 21, 21, 21 and 18 groups. Symbol 0 stands in lines
+     * 8 of the first and 5 of the second, symbol 42 in lines 3 and 8 of the first,
+     * symbol 161 in line 16 of the first and 1 of the second, symbol 14 in lines
+     * 10 and 12 of the fourth. */
+    CHECK(damaged(0, &first) == 2 && first == 8);
+    CHECK(damaged(42, &first) == 2 && first == 3);
+    CHECK(damaged(161, &first) == 2 && first == 16);
+    CHECK(damaged(14, &first) == 2 && first == 63 + 10);
     /* The encoder makes the same parity from the message symbols. */
     for (size_t i = 0; i < MESSAGE_SYMBOLS; i++)
         ref_put_bits(message, 6 * i, 6, code_word[i]);
@@ -70,9 +89,15 @@ static void parity(void)
     for (unsigned g = 0; g < GROUPS; g++) {
         ref_encode(message, 60, 0, frame);
         ref_spoil(frame, g, (uint8_t)(1 + g % 63));
-        CHECK(ref_read_frame(frame, FRAME_BYTES, &c) == 6);
+        CHECK(ref_read_frame_detail(frame, FRAME_BYTES, &c, &d) == 6);
+        CHECK(d.first == g + 1 && d.failing == 1 && d.places == 0);
+        ref_spoil(frame, GROUPS - 1, 1);
+        CHECK(ref_read_frame_detail(frame, FRAME_BYTES, &c, &d) == 6);
+        CHECK(d.first == g + 1 && d.failing == (g < GROUPS - 1 ? 2 : 1));
+        ref_spoil(frame, GROUPS - 1, 1);
         ref_spoil(frame, g, (uint8_t)(1 + g % 63));
-        CHECK(ref_read_frame(frame, FRAME_BYTES, &c) == 7);
+        CHECK(ref_read_frame_detail(frame, FRAME_BYTES, &c, &d) == 7);
+        CHECK(d.first == 0 && d.failing == 0);
     }
 }
 
@@ -137,6 +162,16 @@ static unsigned take(struct ledger *ledger, const struct contents *c)
     return ref_take(ledger, frame, FRAME_BYTES);
 }
 
+/* Whether the contents are refused 19, with so many places. */
+static bool refused_19(struct ledger *ledger, const struct contents *c, unsigned places)
+{
+    uint8_t frame[FRAME_BYTES];
+    struct detail d;
+    frame_of(c, frame);
+    return ref_take_detail(ledger, frame, FRAME_BYTES, &d) == 19 && d.places == places && d.first == 0 &&
+           d.failing == 0;
+}
+
 static void epochs(void)
 {
     struct contents c = { .kind = 1 }, back;
@@ -177,8 +212,9 @@ static void places(void)
     six.clocks.count = 2;
     CHECK(take(&ledger, &six) == 0);
     six.clocks.count = 3;
-    CHECK(take(&ledger, &six) == 15);
+    CHECK(refused_19(&ledger, &six, 48));
     first_slots(&ledger, 0);
+    CHECK(refused_19(&ledger, &six, 0));
     for (uint16_t sub = 0; sub < 32; sub++) {
         four.clocks.first = sub;
         CHECK(take(&ledger, &four) == 15);
@@ -300,6 +336,35 @@ static void whole_list_of_library(void)
     CHECK(memcmp(verdicts, "\0\0\0\0\16", 5) == 0);
 }
 
+/* What the library gives beside the numbers 6 and 19. */
+static void details_of_library(void)
+{
+    static uint8_t ledger[QVD_LEDGER_BYTES];
+    struct contents one = { .kind = 1 }, four = { .kind = 4 }, six = { .kind = 6 };
+    uint8_t frame[FRAME_BYTES];
+
+    for (int slot = 1; slot <= 48; slot++)
+        one.mask.set[slot] = true;
+    four.clocks.first = 3;
+    six.clocks.first = 47;
+    six.clocks.count = 3;
+    CHECK(qvd_open(ledger, sizeof ledger, 60) == 0);
+    frame_of(&four, frame);
+    CHECK(qvd_take_detail(ledger, sizeof ledger, frame, FRAME_BYTES) == 14);
+    frame_of(&one, frame);
+    CHECK(qvd_take_detail(ledger, sizeof ledger, frame, FRAME_BYTES) == 0);
+    frame_of(&four, frame);
+    CHECK(qvd_take_detail(ledger, sizeof ledger, frame, FRAME_BYTES) == 15);
+    frame_of(&six, frame);
+    CHECK(qvd_take_detail(ledger, sizeof ledger, frame, FRAME_BYTES) == 19 + 256 * 48);
+    CHECK(qvd_take(ledger, sizeof ledger, frame, FRAME_BYTES) == 19);
+    CHECK(qvd_take_detail(ledger, sizeof ledger - 1, frame, FRAME_BYTES) == 39);
+    CHECK(qvd_take_detail(ledger, sizeof ledger, frame, FRAME_BYTES - 1) == 1);
+    ref_put_bits(frame, 28, 6, ref_get_bits(frame, 28, 6) ^ 1); /* symbol 0 */
+    CHECK(qvd_take_detail(ledger, sizeof ledger, frame, FRAME_BYTES) == 6 + 256 * 8 + 65536 * 2);
+    CHECK(qvd_take(ledger, sizeof ledger, frame, FRAME_BYTES) == 6);
+}
+
 int main(void)
 {
     field();
@@ -311,6 +376,7 @@ int main(void)
     places();
     whole_list();
     whole_list_of_library();
+    details_of_library();
     printf("examples: %d checked, %d failed\n", checked, failed);
     return failed != 0;
 }

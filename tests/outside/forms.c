@@ -119,3 +119,12 @@ void contents_from_bytes(const uint8_t bytes[CONTENTS_FORM_BYTES], struct conten
         r->ura.quarters = get(&at, 4);
     }
 }
+
+uint32_t detail_to_number(unsigned refusal, const struct detail *detail)
+{
+    if (refusal == 6)
+        return 6 + 256 * (uint32_t)detail->first + 65536 * (uint32_t)detail->failing;
+    if (refusal == 19)
+        return 19 + 256 * (uint32_t)detail->places;
+    return refusal;
+}

@@ -1,6 +1,6 @@
 /* The library's C boundary, as the comparison calls it. Each function returns
- * 0 for taken or the refusal number; 39 is a ledger, a form or a room of a
- * length that this boundary does not have. On a refusal what was lent stays as
+ * 0 for taken or the refusal number, qvd_take_detail with more above it; 39 is a
+ * ledger, a form or a room of a length that this boundary does not have. On a refusal what was lent stays as
  * it was, save that a refused reading gives contents that are all zero.
  * All numbers in rows and contents are high byte first. */
 #ifndef LIBRARY_H
@@ -19,8 +19,12 @@ enum {
 /* 4, 39. */
 uint8_t qvd_open(uint8_t *ledger, size_t n, uint8_t prn);
 
-/* 1, 3 to 15, 39. */
+/* 1, 3 to 15, 19, 39. */
 uint8_t qvd_take(uint8_t *ledger, size_t n, const uint8_t *frame, size_t m);
+
+/* As qvd_take; 6 + 256 * first failing group + 65536 * how many fail, 19 + 256 *
+ * number of set bits of the mask in force, any other number alone. */
+uint32_t qvd_take_detail(uint8_t *ledger, size_t n, const uint8_t *frame, size_t m);
 
 /* Opens, then takes all frames of a log, one verdict byte a frame; a rest at
  * the end is one more frame. 4, 39; 39 also where k is not the number of frames. */

@@ -353,7 +353,8 @@ static void epochs(void)
     end();
 }
 
-/* Sub-types 0, 1, 2 begin with places 1, 24, 47: the third is past 46. */
+/* Sub-types 0, 1, 2 begin with places 1, 24, 47: the third is past 46. So is
+ * place 47 in type 6, alone or after place 46: that is 19. */
 static void set_bits_46(void)
 {
     begin("46-set-bits");
@@ -361,11 +362,16 @@ static void set_bits_46(void)
     hand_contents(four(1, 5, 0), 0, NULL);
     hand_contents(four(1, 5, 1), 0, NULL);
     hand_contents(four(1, 5, 2), 15, NULL);
+    hand_contents(six(1, 5, 46, 1, 0, 0), 0, NULL);
+    hand_contents(six(1, 5, 46, 2, 0, 0), 19, NULL);
+    hand_contents(six(1, 5, 47, 1, 0, 0), 19, NULL);
     end();
 }
 
-/* Sub-type 2 begins with place 47, of 48, sub-type 3 with 70. From place 47 two
- * clocks end with 48, three with 49; 48 alone is the last, 49 is past it. */
+/* Sub-type 2 begins with place 47, of 48, and ends with filler; sub-type 3 begins
+ * with 70: 15. In type 6 from place 47 two clocks end with 48, three with 49: 19;
+ * 48 alone is the last, 49 is past it. No filler in type 6: 22 clocks from place
+ * 47 on are refused. */
 static void set_bits_48(void)
 {
     begin("48-set-bits");
@@ -373,23 +379,25 @@ static void set_bits_48(void)
     hand_contents(four(1, 5, 2), 0, NULL);
     hand_contents(four(1, 5, 3), 15, NULL);
     hand_contents(six(1, 5, 47, 2, 0, 0), 0, NULL);
-    hand_contents(six(1, 5, 47, 3, 0, 0), 15, NULL);
+    hand_contents(six(1, 5, 47, 3, 0, 0), 19, NULL);
     hand_contents(six(1, 5, 48, 1, 0, 0), 0, NULL);
-    hand_contents(six(1, 5, 49, 1, 0, 0), 15, NULL);
+    hand_contents(six(1, 5, 49, 1, 0, 0), 19, NULL);
+    hand_contents(six(1, 5, 47, 22, 0, 0), 19, NULL);
     end();
 }
 
 /* No satellite has place 1, so each of the 32 sub-types is refused 15, and a
- * clock of type 6 too. A type 4 that does not match is refused 14. A type 6
- * without clocks names no place. */
+ * clock of type 6 is refused 19. A type 4 or type 6 that does not match is
+ * refused 14. A type 6 without clocks names no place. */
 static void empty_mask(void)
 {
     begin("empty-mask");
     hand_contents(mask_of_first(0), 0, NULL);
     for (unsigned sub = 0; sub < 32; sub++)
         hand_contents(four(1, 5, sub), 15, NULL);
-    hand_contents(six(1, 5, 1, 1, 0, 0), 15, NULL);
+    hand_contents(six(1, 5, 1, 1, 0, 0), 19, NULL);
     hand_contents(four(1, 6, 0), 14, NULL);
+    hand_contents(six(1, 6, 1, 1, 0, 0), 14, NULL);
     hand_contents(six(1, 5, 0, 0, 0, 1), 0, NULL);
     end();
 }
@@ -421,7 +429,7 @@ static void ends(void)
 /* Bits 1 to 174 of a mask can be set. A slot is at most 255, Slot_S too and not
  * 0; one slot may not stand twice among a message's orbits, nor twice among the
  * clocks of type 7, but once in each part. The mask in force has one set bit, so
- * Slot_S 255 is allowed and no satellite has the place. */
+ * Slot_S 255 is allowed and no satellite has the place: 19. */
 static void slots(void)
 {
     struct contents c;
@@ -442,7 +450,7 @@ static void slots(void)
     hand_patched(c, FIRST_CLOCK_7 + 27, 9, 255, 12);
     hand_contents(seven(1, 1), 0, NULL); /* slot 201 in both parts */
     c = six(1, 5, 255, 1, 0, 0);
-    hand_contents(c, 15, NULL);
+    hand_contents(c, 19, NULL);
     hand_patched(c, SLOT_S, 9, 0, 11);
     hand_patched(c, SLOT_S, 9, 256, 11);
     end();
@@ -532,7 +540,9 @@ static void lowest_first(void)
     c = six(1, 6, 9, 1, 0, 2); /* IODP and place, */
     hand_patched(c, ORBITS_AFTER_1_CLOCK_6 + 23 + 69, 9, 201, 12); /* and slot 201 twice */
     hand_contents(six(1, 6, 9, 1, 0, 0), 14, NULL); /* IODP and place */
-    hand_contents(six(1, 5, 9, 1, 0, 0), 15, NULL); /* the place alone */
+    hand_contents(six(1, 5, 9, 1, 0, 0), 19, NULL); /* the place alone */
+    hand_contents(four(1, 6, 1), 14, NULL);         /* IODP and place */
+    hand_contents(four(1, 5, 1), 15, NULL);         /* the place alone */
     memset(frame, 0, FRAME_BYTES);
     hand(frame, 124, 1, NULL); /* short, and no sync */
     end();
@@ -688,7 +698,7 @@ static void refused_six(void)
     hand_contents(four_clocks(-150, 30, 0, 0), 0, ROW_19("1600", "-2400"));
     hand_contents(six_with_orbit(six(1, 6, 1, 1, 11, 0), 200), 14, ROW_19("1600", "-2400"));
     hand_contents(six_with_orbit(six(2, 5, 1, 1, 11, 0), 200), 14, ROW_19("1600", "-2400"));
-    hand_contents(six_with_orbit(six(1, 5, 1, 3, 11, 0), 200), 15, ROW_19("1600", "-2400"));
+    hand_contents(six_with_orbit(six(1, 5, 1, 3, 11, 0), 200), 19, ROW_19("1600", "-2400"));
     hand_contents(six_with_orbit(six(1, 5, 1, 1, 11, 0), 200), 0, ROW_19("3200", "176"));
     hand_contents(six_with_orbit(six(1, 6, 0, 0, 0, 0), 300), 0, ROW_19("4800", "176"));
     end();
@@ -791,10 +801,13 @@ static void zeros(void)
 
 /* ---- what needs no frame ---- */
 
-/* The field, the check, the appendix's word: worked examples of the rules. A byte
- * less, or a last bit, is refused 1 and 2 before all else; the check of bit 461
- * alone is not zero, so the message is refused 7. URA codes 1 and 19: 3^0 * (4 + 1) - 4, 3^2 *
- * (4 + 3) - 4; 62: 3^7 * (4 + 6) - 4. */
+/* The field, the check, the appendix's word: worked examples of the rules. The
+ * print's columns have 21 lines; symbol 0 stands in line 8 of the first and line
+ * 5 of the second, symbol 42 in lines 3 and 8 of the first, symbol 161 in line 16
+ * of the first and line 1 of the second. A byte less, or a last bit, is refused 1
+ * and 2 before all else; the check of bit 461 alone is not zero, so the message is
+ * refused 7. URA codes 1 and 19: 3^0 * (4 + 1) - 4, 3^2 * (4 + 3) - 4; 62: 3^7 *
+ * (4 + 6) - 4. */
 static void before_the_cases(void)
 {
     printf("field: 2 x 32 = 3\n"
@@ -804,6 +817,9 @@ static void before_the_cases(void)
            "check with only the last bit set: 864cfb\n"
            "appendix word: parity holds\n"
            "damaged symbols caught: 162 of 162\n"
+           "symbol 0 damaged: first group 8, failing 2\n"
+           "symbol 42 damaged: first group 3, failing 2\n"
+           "symbol 161 damaged: first group 16, failing 2\n"
            "URA code 0: unknown\n"
            "URA code 1: 1\n"
            "URA code 19: 59\n"

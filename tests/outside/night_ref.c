@@ -25,10 +25,11 @@ static const char *const refusal_words[] = {
     [12] = "one slot twice",
     [13] = "mask bit set for a reserved slot",
     [14] = "no mask in force, or its IOD SSR or IODP differ",
-    [15] = "no satellite has the place",
+    [15] = "no satellite has the sub-type's first place",
     [16] = "a field exceeds its width, or no URA code gives the quarters",
     [17] = "an issue is neither 0 to 1023 nor none",
     [18] = "no such row",
+    [19] = "no satellite has the last place from Slot_S on",
 };
 enum { REFUSALS = sizeof refusal_words / sizeof refusal_words[0] };
 
@@ -48,6 +49,21 @@ static FILE *open_input(const char *name)
     if (in == NULL)
         stop(name, "cannot be opened");
     return in;
+}
+
+/* The line of a frame, for -e. */
+static void print_frame(unsigned long number, const uint8_t *frame, unsigned refusal, const struct detail *detail)
+{
+    printf("frame %lu", number);
+    if (refusal == 0)
+        printf(" taken type %u", ref_frame_type(frame));
+    else
+        printf(" refused %u", refusal);
+    if (refusal == 6)
+        printf(" group %u failing %u", detail->first, detail->failing);
+    if (refusal == 19)
+        printf(" places %u", detail->places);
+    printf("\n");
 }
 
 static void read_issues(const char *name, uint16_t issues[SLOTS])
@@ -122,16 +138,15 @@ int main(int argc, char **argv)
         uint8_t frame[FRAME_BYTES];
         size_t n;
         while ((n = fread(frame, 1, FRAME_BYTES, in)) > 0) {
-            unsigned refusal = ref_take(&ledger, frame, n);
+            struct detail detail;
+            unsigned refusal = ref_take_detail(&ledger, frame, n, &detail);
             frames++;
             if (refusal == 0)
                 taken++;
             else
                 refused[refusal]++;
-            if (each && refusal == 0)
-                printf("frame %lu taken type %u\n", frames, ref_frame_type(frame));
-            if (each && refusal != 0)
-                printf("frame %lu refused %u\n", frames, refusal);
+            if (each)
+                print_frame(frames, frame, refusal, &detail);
             if (frames % 100000 == 0)
                 fprintf(stderr, "... %lu frames\n", frames);
         }

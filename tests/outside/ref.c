@@ -145,16 +145,21 @@ uint8_t ref_times(uint8_t a, uint8_t b)
     return (uint8_t)product;
 }
 
-bool ref_parity(const uint8_t symbol[SYMBOLS])
+uint8_t ref_failing(const uint8_t symbol[SYMBOLS], uint8_t *first)
 {
+    uint8_t failing = 0;
+    *first = 0;
     for (int g = 0; g < GROUPS; g++) {
         uint8_t sum = 0;
         for (int k = 0; k < 4; k++)
             sum ^= ref_times(factor[g][k], symbol[position[g][k]]);
-        if (sum != 0)
-            return false;
+        if (sum != 0) {
+            if (failing == 0)
+                *first = (uint8_t)(g + 1);
+            failing++;
+        }
     }
-    return true;
+    return failing;
 }
 
 void ref_symbols(const uint8_t frame[FRAME_BYTES], uint8_t symbol[SYMBOLS])
@@ -438,9 +443,10 @@ unsigned ref_frame_prn(const uint8_t frame[FRAME_BYTES]) { return ref_get_bits(f
 unsigned ref_frame_type(const uint8_t frame[FRAME_BYTES]) { return ref_get_bits(frame, CODED_BIT, 6); }
 
 /* A frame up to its contents. With a ledger `prn` is the ledger's; without one
- * it is -1 and the frame's PRN is not looked at. `out` is all zero when this
- * begins. */
-static unsigned read_frame(const uint8_t *frame, size_t length, int prn, struct contents *out)
+ * it is -1 and the frame's PRN is not looked at. `out` and `detail` are all zero
+ * when this begins. */
+static unsigned read_frame(const uint8_t *frame, size_t length, int prn, struct contents *out,
+                           struct detail *detail)
 {
     uint8_t symbol[SYMBOLS], message[MESSAGE_BYTES];
 
@@ -453,16 +459,24 @@ static unsigned read_frame(const uint8_t *frame, size_t length, int prn, struct 
     if (ref_get_bits(frame, 22, 1) != 0)
         return 5;
     ref_symbols(frame, symbol);
-    if (!ref_parity(symbol))
+    detail->failing = ref_failing(symbol, &detail->first);
+    if (detail->failing != 0)
         return 6;
     cut_message(frame, message);
     return read_message(message, out);
 }
 
-unsigned ref_read_frame(const uint8_t *frame, size_t length, struct contents *out)
+unsigned ref_read_frame_detail(const uint8_t *frame, size_t length, struct contents *out, struct detail *detail)
 {
     memset(out, 0, sizeof *out);
-    return read_frame(frame, length, -1, out);
+    memset(detail, 0, sizeof *detail);
+    return read_frame(frame, length, -1, out, detail);
+}
+
+unsigned ref_read_frame(const uint8_t *frame, size_t length, struct contents *out)
+{
+    struct detail detail;
+    return ref_read_frame_detail(frame, length, out, &detail);
 }
 
 /* ---- writing ---- */
@@ -654,7 +668,7 @@ static void take_orbits(struct ledger *ledger, const struct orbit_part *part)
     }
 }
 
-/* Refusals 14 and 15. */
+/* Refusals 14, 15 and 19. */
 static unsigned judge_places(const struct ledger *ledger, const struct contents *c)
 {
     const struct clock_part *part = &c->clocks;
@@ -665,16 +679,22 @@ static unsigned judge_places(const struct ledger *ledger, const struct contents 
     if (!ledger->has_mask || part->iod_ssr != ledger->mask.iod_ssr || part->iodp != ledger->mask.iodp)
         return 14;
     place = c->kind == 4 ? 23u * part->first + 1 : part->first + part->count - 1u;
-    return place > ledger->places ? 15 : 0;
+    if (place > ledger->places)
+        return c->kind == 4 ? 15 : 19;
+    return 0;
 }
 
-unsigned ref_take(struct ledger *ledger, const uint8_t *frame, size_t length)
+unsigned ref_take_detail(struct ledger *ledger, const uint8_t *frame, size_t length, struct detail *detail)
 {
     struct contents c = { 0 };
-    unsigned refusal = read_frame(frame, length, ledger->prn, &c);
+    unsigned refusal;
 
+    memset(detail, 0, sizeof *detail);
+    refusal = read_frame(frame, length, ledger->prn, &c, detail);
     if (refusal == 0)
         refusal = judge_places(ledger, &c);
+    if (refusal == 19)
+        detail->places = ledger->places;
     if (refusal != 0)
         return refusal;
     if (c.kind == 1)
@@ -692,6 +712,12 @@ unsigned ref_take(struct ledger *ledger, const uint8_t *frame, size_t length)
     }
     take_orbits(ledger, &c.orbits);
     return 0;
+}
+
+unsigned ref_take(struct ledger *ledger, const uint8_t *frame, size_t length)
+{
+    struct detail detail;
+    return ref_take_detail(ledger, frame, length, &detail);
 }
 
 /* ---- the list ---- */

@@ -106,6 +106,14 @@ struct ledger {
     struct held_clock clock[SLOTS + 1];
 };
 
+/* What a refusal gives beside its number: of 6 the first two, of 19 the third.
+ * All others, and a frame that is taken, give zeros. */
+struct detail {
+    uint8_t first;   /* failing parity group, 1 to 81 */
+    uint8_t failing; /* how many of the 81 groups fail */
+    uint16_t places; /* number of set bits of the mask in force */
+};
+
 struct row {
     uint8_t slot;
     uint8_t system; /* 1 BeiDou, 2 GPS, 3 Galileo, 4 GLONASS */
@@ -119,8 +127,9 @@ struct row {
 /* Field of 64: the product of two symbols. */
 uint8_t ref_times(uint8_t a, uint8_t b);
 
-/* Whether all 81 parity groups of the 162 symbols are zero. */
-bool ref_parity(const uint8_t symbol[SYMBOLS]);
+/* How many of the 81 parity groups of the 162 symbols are not zero. The first
+ * of them, from 1 in the print's order, goes to `first`; 0 if there is none. */
+uint8_t ref_failing(const uint8_t symbol[SYMBOLS], uint8_t *first);
 
 /* The symbols of a frame's coded part. */
 void ref_symbols(const uint8_t frame[FRAME_BYTES], uint8_t symbol[SYMBOLS]);
@@ -145,10 +154,12 @@ unsigned ref_write(const struct contents *in, uint8_t *room, size_t length);
 
 /* A frame without a ledger: refusals 1, 3, 5 to 13. */
 unsigned ref_read_frame(const uint8_t *frame, size_t length, struct contents *out);
+unsigned ref_read_frame_detail(const uint8_t *frame, size_t length, struct contents *out, struct detail *detail);
 
-/* The ledger: 4 on opening; 1, 3 to 15 on taking a frame. */
+/* The ledger: 4 on opening; 1, 3 to 15, 19 on taking a frame. */
 unsigned ref_open(struct ledger *ledger, unsigned prn);
 unsigned ref_take(struct ledger *ledger, const uint8_t *frame, size_t length);
+unsigned ref_take_detail(struct ledger *ledger, const uint8_t *frame, size_t length, struct detail *detail);
 
 /* The list, against `n` broadcast issues, issues[k - 1] for slot k. Count and
  * all rows, in rising slot order: refusals 1, 17. Row at a position (from 1):

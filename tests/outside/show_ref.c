@@ -96,7 +96,12 @@ int main(int argc, char **argv)
     }
     while ((n = fread(bytes, 1, size, in)) > 0) {
         struct contents c;
-        unsigned refusal = frames ? ref_read_frame(bytes, n, &c) : ref_read(bytes, n, &c);
+        struct detail detail;
+        unsigned refusal = frames ? ref_read_frame_detail(bytes, n, &c, &detail) : ref_read(bytes, n, &c);
+        if (refusal == 6) {
+            printf("refused 6 group %u failing %u\n", detail.first, detail.failing);
+            continue;
+        }
         if (refusal != 0) {
             printf("refused %u\n", refusal);
             continue;

@@ -43,6 +43,20 @@ uint8_t qvd_take(uint8_t *ledger, size_t n, const uint8_t *frame, size_t m)
     return (uint8_t)refusal;
 }
 
+uint32_t qvd_take_detail(uint8_t *ledger, size_t n, const uint8_t *frame, size_t m)
+{
+    struct ledger l;
+    struct detail detail;
+    unsigned refusal;
+    if (n != QVD_LEDGER_BYTES)
+        return 39;
+    memcpy(&l, ledger, sizeof l);
+    refusal = ref_take_detail(&l, frame, m, &detail);
+    if (refusal == 0)
+        store(ledger, &l);
+    return detail_to_number(refusal, &detail);
+}
+
 uint8_t qvd_replay(uint8_t *ledger, size_t n, uint8_t prn, const uint8_t *log, size_t m,
                    uint8_t *verdicts, size_t k)
 {

@@ -28,7 +28,7 @@ use Rattle.list.specs.Rows.{listIn, rowOfSlotAnswer}
 use Rattle.writing.specs.Write.{writeRefusal, written}
 use Rattle.flat.specs.Read.{contentsOf}
 use Rattle.flat.proofs.FlatLaws.{contents-whole, row-whole}
-use Rattle.clib.specs.Boundary.{openAnswer, openRoom, frameNumber, takeAnswer, takeRoom, verdictsOf, replayAnswer, replayLedger, replayVerdicts, answerBytes, rowsBytes, rowsAnswer, rowsRoom, rowAnswer, rowRoom, readAnswer, readRoom, frameAnswer, frameRoom, writeAnswer, writeRoom}
+use Rattle.clib.specs.Boundary.{sized, isLedger, openAnswer, openRoom, takeRoom, verdictsOf, replayAnswer, replayLedger, replayVerdicts, answerBytes, rowsBytes, rowsAnswer, rowsRoom, rowAnswer, rowRoom, readAnswer, readRoom, frameAnswer, frameRoom, writeAnswer, writeRoom}
 
 -- ---- rows put one after the other, as a loop's turn has them
 answer-of : (o : Option Row) (rest : List Row) → rowsBytes (toList o ++ rest) ≡ answerBytes (answerOf 0 o) ++ rowsBytes rest
@@ -83,13 +83,14 @@ module _ (s : List ℕ) (prn : ℕ) where
   open-yes t l e b = (rw (eq-eqb _ _ l, e), rw (eq-eqb _ _ l, e) b)
 
 module _ (s f : List ℕ) where
-  pub take-size : length s ≢ 9440 → (39 ≡ takeAnswer s f) × (s ≡ takeRoom s f)
-  unfolding takeAnswer takeRoom
-  take-size n = (rw (ne-eqb _ _ n), rw (ne-eqb _ _ n))
+  -- a frame taken, whatever number the answer is
+  pub take-size : (m : ℕ) → length s ≢ 9440 → (39 ≡ sized (isLedger s) m) × (s ≡ takeRoom s f)
+  unfolding takeRoom
+  take-size m n = (rw (ne-eqb _ _ n), rw (ne-eqb _ _ n))
 
-  pub take-right : (n : ℕ) (t : List ℕ) → length s ≡ 9440 → n ≡ frameNumber s f → t ≡ takeBytes s f → (n ≡ takeAnswer s f) × (t ≡ takeRoom s f)
-  unfolding takeAnswer takeRoom
-  take-right n t l a b = (rw (eq-eqb _ _ l) a, rw (eq-eqb _ _ l) b)
+  pub take-right : (n m : ℕ) (t : List ℕ) → length s ≡ 9440 → n ≡ m → t ≡ takeBytes s f → (n ≡ sized (isLedger s) m) × (t ≡ takeRoom s f)
+  unfolding takeRoom
+  take-right n m t l a b = (rw (eq-eqb _ _ l) a, rw (eq-eqb _ _ l) b)
 
 module _ (m room : List ℕ) where
   pub read-size : length room ≢ 488 → (39 ≡ readAnswer m room) × (room ≡ readRoom m room)

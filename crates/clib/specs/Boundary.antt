@@ -9,7 +9,7 @@ use Rattle.bits.specs.Bytes.{storeAt}
 use Rattle.bits.specs.Table.{table}
 use Rattle.message.specs.Read.{numberOf, verdictOf, readMessage}
 use Rattle.frame.specs.Frame.{readFrame}
-use Rattle.ledger.specs.Bytes.{openRefusal, openBytes, fresh, takeRefusal, takeBytes, frameAt, framesTo, framesOf, runBytes}
+use Rattle.ledger.specs.Bytes.{openRefusal, openBytes, fresh, takeVerdict, takeBytes, frameAt, framesTo, framesOf, runBytes}
 use Rattle.list.specs.Issues.{issuesRefusal}
 use Rattle.list.specs.Row.{rowNumber}
 use Rattle.list.specs.Rows.{listIn, rowOfSlotAnswer}
@@ -19,6 +19,7 @@ use Rattle.list.specs.declared.row.RowAnswer.the-variants.{Found, Refused}
 use Rattle.writing.specs.Write.{writeRefusal, written}
 use Rattle.flat.specs.Read.{contentsOf}
 use Rattle.flat.specs.Write.{contentsBytes, rowBytes}
+use Rattle.clib.specs.Detail.{detailOf}
 
 -- 39 where a lent slice has a wrong length, else n
 abbrev pub sized : Bool → ℕ → ℕ
@@ -42,11 +43,15 @@ openRoom s prn = pick (isLedger s) (openBytes s prn) s
 
 -- the number that a ledger gives a frame
 abbrev pub frameNumber : List ℕ → List ℕ → ℕ
-frameNumber s f = numberOf (verdictOf (takeRefusal s f))
+frameNumber s f = numberOf (takeVerdict s f)
 
 -- qvd_take: 39, then the number that the ledger gives the frame
-unfoldable pub takeAnswer : List ℕ → List ℕ → ℕ
+abbrev pub takeAnswer : List ℕ → List ℕ → ℕ
 takeAnswer s f = sized (isLedger s) (frameNumber s f)
+
+-- qvd_take_detail: 39, then all that the ledger's verdict says
+abbrev pub detailAnswer : List ℕ → List ℕ → ℕ
+detailAnswer s f = sized (isLedger s) (detailOf (takeVerdict s f))
 
 -- the ledger with the frame taken
 unfoldable pub takeRoom : List ℕ → List ℕ → List ℕ

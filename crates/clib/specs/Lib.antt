@@ -1,1 +1,2 @@
+pub mod Detail
 pub mod Boundary

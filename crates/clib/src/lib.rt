@@ -3,10 +3,10 @@ ghost use mathlib.Core.Path.{_≡_};
 ghost use Prim.Native.Nat.{_+_, _*_, _/_, _<_};
 ghost use lib.ListN.{length, replicate};
 ghost use Rattle.bits.specs.Bytes.{storeAt};
-ghost use Rattle.message.specs.Read.{numberOf};
 ghost use Rattle.ledger.specs.Bytes.{takeBytes, frameAt, runBytes, framesOf};
 ghost use Rattle.list.specs.Rows.{foundCount, listIn};
-ghost use Rattle.clib.specs.Boundary.{openAnswer, openRoom, takeAnswer, takeRoom, frameNumber, verdictsOf, replayAnswer, replayLedger, replayVerdicts, answerBytes, rowsBytes, rowsAnswer, rowsRoom, rowAnswer, rowRoom, readAnswer, readRoom, frameAnswer, frameRoom, writeAnswer, writeRoom};
+ghost use Rattle.clib.specs.Detail.{detailOf};
+ghost use Rattle.clib.specs.Boundary.{openAnswer, openRoom, takeAnswer, detailAnswer, takeRoom, frameNumber, verdictsOf, replayAnswer, replayLedger, replayVerdicts, answerBytes, rowsBytes, rowsAnswer, rowsRoom, rowAnswer, rowRoom, readAnswer, readRoom, frameAnswer, frameRoom, writeAnswer, writeRoom};
 use flat::contents_of;
 use flat::put_contents;
 use flat::put_row;
@@ -20,16 +20,19 @@ use list::row::RowAnswer;
 use list::row::slot_row;
 use list::rows::row_of_slot;
 use message::read::Verdict;
+use message::read::number_of;
 use message::read::read;
 use writing::write;
 
-// The number of a verdict.
-fn number(v: Verdict) -> u8
-    ensures { λ r. ⌜ r ≡ numberOf v ⌝ }
+// What a verdict says in one number: its refusal number, then the first failing group and how many fail, or the number of places.
+fn detail(v: Verdict) -> u32
+    ensures { λ r. ⌜ r ≡ detailOf v ⌝ }
 {
     match v {
         Verdict::Taken => 0,
-        Verdict::Refused(n) => n,
+        Verdict::Refused(n) => n as u32,
+        Verdict::Parity(first, failing) => 6 + 256 * (first as u32) + 65536 * (failing as u32),
+        Verdict::Places(set) => 19 + 256 * (set as u32),
     }
 }
 
@@ -49,7 +52,7 @@ pub extern "C" fn qvd_open(ledger: &mut [u8], prn: u8) -> u8
     0
 }
 
-// A frame is taken into a ledger. 1, 3 to 15, 39.
+// A frame is taken into a ledger. 1, 3 to 15, 19, 39.
 #[no_mangle]
 pub extern "C" fn qvd_take(ledger: &mut [u8], frame: &[u8]) -> u8
     ensures answer { λ r. ⌜ r ≡ takeAnswer (now (ledger .entry)) (now (frame .entry)) ⌝ }
@@ -58,7 +61,19 @@ pub extern "C" fn qvd_take(ledger: &mut [u8], frame: &[u8]) -> u8
     if ledger.len() != 9440 {
         return 39;
     }
-    number(take_in(ledger, frame))
+    number_of(take_in(ledger, frame))
+}
+
+// A frame is taken into a ledger, and the answer also says what the numbers 6 and 19 carry. 1, 3 to 15, 19, 39.
+#[no_mangle]
+pub extern "C" fn qvd_take_detail(ledger: &mut [u8], frame: &[u8]) -> u32
+    ensures answer { λ r. ⌜ r ≡ detailAnswer (now (ledger .entry)) (now (frame .entry)) ⌝ }
+    ensures bytes { λ r. ⌜ now (ledger .exit) ≡ takeRoom (now (ledger .entry)) (now (frame .entry)) ⌝ }
+{
+    if ledger.len() != 9440 {
+        return 39;
+    }
+    detail(take_in(ledger, frame))
 }
 
 // Frame i of a log, from 0, is taken.
@@ -70,7 +85,7 @@ fn take_nth(t: &mut [u8], log: &[u8], i: usize) -> u8
     let a = 125 * i;
     let left = log.len() - a;
     let e = if left < 125 { log.len() } else { a + 125 };
-    number(take_in(t, &log[a..e]))
+    number_of(take_in(t, &log[a..e]))
 }
 
 // The frames of a log are taken in order, and the verdict of each is kept.
@@ -202,7 +217,7 @@ pub extern "C" fn qvd_read(message: &[u8], contents: &mut [u8]) -> u8
     let c = r.contents;
     let v = r.verdict;
     put_contents(contents, c);
-    number(v)
+    number_of(v)
 }
 
 // The contents of a frame, read without a ledger. 1, 3, 5 to 13, 39.
@@ -218,7 +233,7 @@ pub extern "C" fn qvd_read_frame(frame: &[u8], contents: &mut [u8]) -> u8
     let c = r.contents;
     let v = r.verdict;
     put_contents(contents, c);
-    number(v)
+    number_of(v)
 }
 
 // The message of contents. 1, 8 to 13, 16, 39.
@@ -230,5 +245,5 @@ pub extern "C" fn qvd_write(contents: &[u8], room: &mut [u8]) -> u8
     if contents.len() != 488 {
         return 39;
     }
-    number(write(room, contents_of(contents)))
+    number_of(write(room, contents_of(contents)))
 }

@@ -3,7 +3,6 @@ use crate::ask::issues;
 use crate::say::say;
 use crate::say::say_number;
 use crate::say::say_row;
-use crate::say::verdict_number;
 use ledger::Ledger;
 use ledger::open::open;
 use ledger::take::take;
@@ -11,6 +10,7 @@ use list::row::RowAnswer;
 use list::rows::Count;
 use list::rows::row_at;
 use list::rows::row_count;
+use message::read::number_of;
 
 // A ledger for PRN 60.
 pub fn opened() -> Ledger {
@@ -26,7 +26,7 @@ pub fn take_next(file: i32, ledger: &mut Ledger) -> u64 {
     if n == 0 {
         return 255;
     }
-    verdict_number(take(ledger, &frame[..n]))
+    number_of(take(ledger, &frame[..n])) as u64
 }
 
 // How many rows the list has.

@@ -7,11 +7,10 @@ mod cases;
 mod say;
 
 use libc::STDOUT_FILENO;
-use message::read::Verdict;
+use message::read::number_of;
 use say::say;
 use say::say_number;
 use say::say_ura;
-use say::verdict_number;
 
 // 000, appendix: the code word of the encoding example, 162 symbols in the print's order, nine to a row.
 const WORD: [[u8; 9]; 18] = [
@@ -56,12 +55,18 @@ fn frame() -> [u8; 125] {
     out
 }
 
-// The frame with the low bit of symbol k turned over is found wrong.
-fn caught(k: u8) -> bool {
+// The frame with the low bit of symbol k turned over.
+fn damaged(k: u8) -> [u8; 125] {
     let mut out = frame();
     let at = 28 + 6 * (k as usize);
     let was = bits::get(&out, at, 6);
     bits::put(&mut out, at, 6, was ^ 1);
+    out
+}
+
+// The frame with symbol k damaged is found wrong.
+fn caught(k: u8) -> bool {
+    let out = damaged(k);
     !parity::parity_ok(&out)
 }
 
@@ -116,6 +121,19 @@ fn say_caught() {
     say(b" of 162\n");
 }
 
+// Writes which groups fail where symbol k is damaged.
+fn say_groups(k: u8) {
+    let out = damaged(k);
+    let g = parity::failed_groups(&out);
+    say(b"symbol ");
+    say_number(k as u64);
+    say(b" damaged: first group ");
+    say_number(g.first as u64);
+    say(b", failing ");
+    say_number(g.failing as u64);
+    say(b"\n");
+}
+
 // Writes the accuracy index of a code.
 fn say_code(code: u8) {
     say(b"URA code ");
@@ -143,7 +161,7 @@ fn say_read(text: &[u8], message: &[u8]) {
     let reading = message::read::read(message);
     let v = reading.verdict;
     say(text);
-    say_number(verdict_number(v));
+    say_number(number_of(v) as u64);
     say(b"\n");
 }
 
@@ -157,10 +175,7 @@ fn say_read_bit(text: &[u8], at: usize) {
 // Whether a ledger can be opened for a PRN.
 fn opens(prn: u8) -> bool {
     let mut ledger = [0u8; 9440];
-    match ledger::open::open(&mut ledger, prn) {
-        Verdict::Taken => true,
-        Verdict::Refused(_) => false,
-    }
+    number_of(ledger::open::open(&mut ledger, prn)) == 0
 }
 
 // Writes the PRN if a ledger can be opened for it.
@@ -192,6 +207,9 @@ fn say_codes() {
     say_check(b"check with only the last bit set: ", 1);
     say_parity();
     say_caught();
+    say_groups(0);
+    say_groups(42);
+    say_groups(161);
 }
 
 // The accuracy indices and the ends.

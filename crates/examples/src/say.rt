@@ -1,7 +1,6 @@
 // Writing to standard output.
 use libc::STDOUT_FILENO;
 use list::row::Row;
-use message::read::Verdict;
 use records::slots::System;
 use records::ura::Ura;
 
@@ -30,14 +29,6 @@ fn say_signed(x: i32) {
         say(b"-");
     }
     say_number(size_of(x));
-}
-
-// The number of a verdict: 0 for taken.
-pub fn verdict_number(v: Verdict) -> u64 {
-    match v {
-        Verdict::Taken => 0,
-        Verdict::Refused(n) => n as u64,
-    }
 }
 
 // Writes an accuracy index.

@@ -4,13 +4,16 @@ use mathlib.Core.Bool.{Bool, false, not}
 use mathlib.Core.List.{List, [], _∷_}
 use lib.Dec.{eqb}
 use lib.ListN.{length}
+use Rattle.bits.specs.Pick.{pick}
 use Rattle.bits.specs.Bits.{bitAt, fieldAt}
 use Rattle.bits.specs.Some.{first}
 use Rattle.check24.specs.Check.{checkOk}
-use Rattle.parity.specs.Parity.{parityOk}
-use Rattle.contents.specs.Parts.{contentsAt}
+use Rattle.parity.specs.Parity.{parityOk, failedGroups}
+use Rattle.contents.specs.Parts.{contentsAt, noContents}
 use Rattle.message.specs.Judge.{refusalOf}
-use Rattle.message.specs.Read.{answer}
+use Rattle.message.specs.Read.{verdictOf}
+use Rattle.message.specs.declared.read.Verdict.{Verdict}
+use Rattle.message.specs.declared.read.Verdict.the-variants.{Parity}
 use Rattle.contents.specs.declared.parts.Contents.{Contents}
 use Rattle.message.specs.declared.read.Reading.{Reading}
 
@@ -39,9 +42,14 @@ unfoldable pub refusalWith : Bool → List ℕ → ℕ
 refusalWith foreign f =
     first ((shellRefusal foreign f, not (eqb (shellRefusal foreign f) 0)) ∷ (refusalOf (contentsOf f), not (eqb (refusalOf (contentsOf f)) 0)) ∷ [])
 
+-- 02, CR 1: the verdict of a frame's number; 6 also gives the first failing group and how many of the 81 fail
+unfoldable pub verdictFor : List ℕ → ℕ → Verdict
+verdictFor f n = pick (eqb n 6) (Parity (failedGroups f .first) (failedGroups f .failing)) (verdictOf n)
+
 -- the answer: the contents, or only the refusal
-abbrev pub readWith : Bool → List ℕ → Reading
-readWith foreign f = answer (refusalWith foreign f) (contentsOf f)
+unfoldable pub readWith : Bool → List ℕ → Reading
+readWith foreign f =
+    record { verdict = verdictFor f (refusalWith foreign f); contents = pick (eqb (refusalWith foreign f) 0) (contentsOf f) noContents }
 
 -- 01: reading without a ledger makes no check 4
 abbrev pub readFrame : List ℕ → Reading

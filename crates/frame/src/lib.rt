@@ -1,11 +1,13 @@
 // Frames of 125 bytes, read without a ledger or for one PRN: 01, "What arrives and what is handled".
 ghost use mathlib.Core.Path.{_≡_};
-ghost use Rattle.frame.specs.Frame.{prnOf, shellRefusal, readFrame, readFor, readWith};
+ghost use Rattle.frame.specs.Frame.{prnOf, shellRefusal, verdictFor, readFrame, readFor, readWith};
 use contents::parts::no_contents;
 use contents::read::contents_at;
 use message::judge::refusal_of;
 use message::read::Reading;
+use message::read::Verdict;
 use message::read::answer_of;
+use message::read::number_of;
 
 // The PRN that a frame carries; the bits past the end of a short one are 0.
 pub fn prn_of(f: &[u8]) -> u8
@@ -14,38 +16,40 @@ pub fn prn_of(f: &[u8]) -> u8
     bits::get8(f, 16, 6)
 }
 
-// The lowest refusal of the frame around its message: 1, 3, 4 where it is foreign, 5, 6, 7; 0 if none applies.
-fn shell_refusal(f: &[u8], foreign: bool) -> u8
-    ensures { λ r. ⌜ r ≡ shellRefusal foreign (now (f .entry)) ⌝ }
+// The verdict on the frame around its message: the lowest of 1, 3, 4 where it is foreign, 5, 6, 7, or taken.
+fn shell_verdict(f: &[u8], foreign: bool) -> Verdict
+    ensures { λ r. ⌜ r ≡ verdictFor (now (f .entry)) (shellRefusal foreign (now (f .entry))) ⌝ }
 {
     if f.len() != 125 {
-        return 1;
+        return Verdict::Refused(1);
     }
     if bits::get16(f, 0, 16) != 0xEB90 {
-        return 3;
+        return Verdict::Refused(3);
     }
     if foreign {
-        return 4;
+        return Verdict::Refused(4);
     }
     if bits::bit(f, 22) == 1 {
-        return 5;
+        return Verdict::Refused(5);
     }
-    if !parity::parity_ok(f) {
-        return 6;
+    let g = parity::failed_groups(f);
+    if g.failing != 0 {
+        return Verdict::Parity(g.first, g.failing);
     }
     if !check24::check_ok(f, 28, 462) {
-        return 7;
+        return Verdict::Refused(7);
     }
-    0
+    Verdict::Taken
 }
 
 // The frame's message, or the lowest refusal; foreign says whether 4 applies.
 fn read_with(f: &[u8], foreign: bool) -> Reading
     ensures { λ r. ⌜ r ≡ readWith foreign (now (f .entry)) ⌝ }
 {
-    let n = shell_refusal(f, foreign);
-    if n != 0 {
-        return answer_of(n, no_contents());
+    let verdict = shell_verdict(f, foreign);
+    if number_of(verdict) != 0 {
+        let contents = no_contents();
+        return Reading { verdict, contents };
     }
     let c = contents_at(f, 28);
     answer_of(refusal_of(c), c)

@@ -20,9 +20,9 @@ use Rattle.form.specs.declared.HeldClock.{HeldClock}
 use Rattle.form.specs.declared.HeldOrbit.{HeldOrbit}
 use Rattle.mask.specs.Mask.{HeldMask, noMask, sameMask, maskAt}
 use Rattle.mask.proofs.MaskLaws.{mask-eq}
-use Rattle.ledger.specs.Keeps.{maskOf, orbitsOf, clocksOf, refusalUnder}
-use Rattle.ledger.specs.Back.{maskInForce, refusalAfter, accepted, maskBy, orbitBy, clockBy, orbitInForce, clockBack}
-use Rattle.ledger.specs.Bytes.{fresh, takenBytes, takeRefusal, takeBytes, runBytes, Holds}
+use Rattle.ledger.specs.Keeps.{maskOf, orbitsOf, clocksOf, refusalUnder, verdictUnder}
+use Rattle.ledger.specs.Back.{maskInForce, refusalAfter, verdictAfter, accepted, maskBy, orbitBy, clockBy, orbitInForce, clockBack}
+use Rattle.ledger.specs.Bytes.{fresh, takenBytes, takeRefusal, takeVerdict, takeBytes, runBytes, Holds}
 use Rattle.ledger.proofs.KeepLaws.{mask-other, mask-kind, mask-clocks, mask-free}
 use Rattle.ledger.proofs.ViewLaws.{taken-room, taken-mask, taken-orbits, taken-clocks, clock-listed, orbit-listed, fresh-long, fresh-prn, fresh-mask, fresh-clock, fresh-orbit}
 
@@ -148,3 +148,9 @@ holds-run s prn (f ∷ h) long = holds-step (runBytes (fresh s prn) h) prn h f (
 -- and every frame is answered by the number that looking back gives
 pub refusal-run : (s : List ℕ) (prn : ℕ) (h : List (List ℕ)) (f : List ℕ) → length s ≡ size → takeRefusal (runBytes (fresh s prn) h) f ≡ refusalAfter prn h f
 refusal-run s prn h f long = refusal-step (runBytes (fresh s prn) h) prn h f (holds-run s prn h long)
+
+-- and by the verdict
+pub verdict-run : (s : List ℕ) (prn : ℕ) (h : List (List ℕ)) (f : List ℕ) → length s ≡ size → takeVerdict (runBytes (fresh s prn) h) f ≡ verdictAfter prn h f
+verdict-run s prn h f long =
+    ap (λ (m : HeldMask). verdictUnder m f (takeRefusal (runBytes (fresh s prn) h) f)) (holds-run s prn h long .mask)
+    ∙ ap (verdictUnder (maskInForce prn h) f) (refusal-run s prn h f long)

@@ -19,11 +19,12 @@ use Rattle.records.specs.declared.clock.Clock.{Clock}
 use Rattle.contents.specs.declared.parts.ClockPart.{ClockPart}
 use Rattle.contents.specs.declared.parts.OrbitPart.{OrbitPart}
 use Rattle.contents.specs.declared.parts.Contents.{Contents}
+use Rattle.contents.proofs.LayoutLaws.{pick-all}
 use Rattle.frame.proofs.FrameLaws.{skipped}
 use Rattle.store.specs.Held.{putHelds, putHeld}
 use Rattle.form.proofs.FormLaws.{ClocksHeld, OrbitsHeld}
 use Rattle.mask.specs.Mask.{HeldMask, heldMask}
-use Rattle.ledger.specs.Keeps.{heldOrbit, heldClock, bySlot, byPlace, maskOf, hasOrbits, orbitsOf, needsMask, firstPlace, placeToCheck, otherMask, clocksOf, placeRefusal}
+use Rattle.ledger.specs.Keeps.{heldOrbit, heldClock, bySlot, byPlace, maskOf, hasOrbits, orbitsOf, needsMask, firstPlace, placeToCheck, otherMask, clocksOf, placeNumber, placeRefusal}
 
 drop-one : {A : Type 0} (l : List A) (i : ℕ) (d : A) → i < length l → drop i l ≡ getD l i d ∷ drop (i + 1) l
 drop-one l i d h = rw (add-one, drop-cons l i d)
@@ -127,7 +128,10 @@ module _ (c : Contents) where
     unfolding placeRefusal
     mask-free m = rw k
 
--- ---- 14 and 15, in the order in which they are looked for
+number-some : (kind : ℕ) → 1 ≤ placeNumber kind
+number-some kind = pick-all (λ (n : ℕ). 1 ≤ n) (eqb kind 4) 15 19 (omega arith) (omega arith)
+
+-- ---- 14, 15 and 19, in the order in which they are looked for
 module _ (m : HeldMask) (kind : ℕ) (p : ClockPart) where
   pub place-free : needsMask kind p ≡ false → placeRefusal m kind p ≡ 0
   unfolding placeRefusal
@@ -149,7 +153,7 @@ module _ (m : HeldMask) (kind : ℕ) (p : ClockPart) where
         place-iodp d = rw (n, h, eq-eqb (m .ssr) (p .ssr) s, ne-eqb (m .iodp) (p .iodp) d)
 
         module _ (i : m .iodp ≡ p .iodp) where
-          pub place-past : setCount (m .bits) < placeToCheck kind p → placeRefusal m kind p ≡ 15
+          pub place-past : setCount (m .bits) < placeToCheck kind p → placeRefusal m kind p ≡ placeNumber kind
           unfolding placeRefusal
           place-past l = rw (n, h, eq-eqb (m .ssr) (p .ssr) s, eq-eqb (m .iodp) (p .iodp) i, lt-ltb _ _ l)
 
@@ -157,13 +161,22 @@ module _ (m : HeldMask) (kind : ℕ) (p : ClockPart) where
           unfolding placeRefusal
           place-good l = rw (n, h, eq-eqb (m .ssr) (p .ssr) s, eq-eqb (m .iodp) (p .iodp) i, le-ltb _ _ l)
 
+  -- it is none of a frame's own numbers
+  pub place-own : placeRefusal m kind p ≢ 6
+  unfolding placeRefusal
+  place-own =
+      let past = needsMask kind p && ltb (setCount (m .bits)) (placeToCheck kind p) in
+      let number = pick-all (λ (n : ℕ). n ≢ 6) (eqb kind 4) 15 19 (omega arith) (omega arith) in
+      let second = pick-all (λ (n : ℕ). n ≢ 6) past (placeNumber kind) 0 number (omega arith) in
+      pick-all (λ (n : ℕ). n ≢ 6) (needsMask kind p && otherMask m p) 14 (pick past (placeNumber kind) 0) (omega arith) second
+
   -- where neither applies, the place that is looked at has a satellite
   pub place-in : needsMask kind p ≡ true → placeRefusal m kind p ≡ 0 → placeToCheck kind p ≤ setCount (m .bits)
   unfolding placeRefusal
   place-in n e =
       let past = needsMask kind p && ltb (setCount (m .bits)) (placeToCheck kind p) in
-      let r14 = skipped 14 (needsMask kind p && otherMask m p) (pick {A = ℕ} past 15 0) (omega arith) e in
-      let r15 = skipped 15 past 0 (omega arith) (r14 .1) in
+      let r14 = skipped 14 (needsMask kind p && otherMask m p) (pick {A = ℕ} past (placeNumber kind) 0) (omega arith) e in
+      let r15 = skipped (placeNumber kind) past 0 (number-some kind) (r14 .1) in
       let q : ltb (setCount (m .bits)) (placeToCheck kind p) ≡ false = rw n at (r15 .0) in
       ltb-false _ _ q
 

@@ -5,13 +5,14 @@ use mathlib.Core.List.{List, [], _∷_}
 use mathlib.Core.Option.{Option, none}
 use lib.Dec.{eqb}
 use Rattle.bits.specs.Pick.{pick}
+use Rattle.message.specs.declared.read.Verdict.{Verdict}
 use Rattle.frame.specs.Frame.{contentsOf}
 use Rattle.store.specs.Store.{naming, getOr, standingOr, since}
 use Rattle.form.specs.Form.{noClock, noOrbit, clocksKept}
 use Rattle.form.specs.declared.HeldClock.{HeldClock}
 use Rattle.form.specs.declared.HeldOrbit.{HeldOrbit}
 use Rattle.mask.specs.Mask.{HeldMask, noMask, sameMask}
-use Rattle.ledger.specs.Keeps.{maskOf, orbitsOf, clocksOf, refusalUnder}
+use Rattle.ledger.specs.Keeps.{maskOf, orbitsOf, clocksOf, refusalUnder, verdictUnder}
 
 -- 01, Mask in force: that of the last accepted type 1, for a ledger of the PRN after the frames h
 unfoldable pub maskInForce : ℕ → List (List ℕ) → HeldMask
@@ -22,6 +23,10 @@ maskInForce prn (f ∷ h) =
 -- 01, Refusal numbers: the one given to f, handed in after h; 0 if it is taken
 abbrev pub refusalAfter : ℕ → List (List ℕ) → List ℕ → ℕ
 refusalAfter prn h f = refusalUnder prn (maskInForce prn h) f
+
+-- its verdict
+abbrev pub verdictAfter : ℕ → List (List ℕ) → List ℕ → Verdict
+verdictAfter prn h f = verdictUnder (maskInForce prn h) f (refusalAfter prn h f)
 
 -- f, handed in after h, is accepted
 abbrev pub accepted : ℕ → List (List ℕ) → List ℕ → Bool

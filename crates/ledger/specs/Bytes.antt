@@ -8,10 +8,11 @@ use lib.ListN.{getD, set, length, take, drop, replicate}
 use Rattle.bits.specs.Pick.{pick}
 use Rattle.contents.specs.declared.parts.MaskPart.{MaskPart}
 use Rattle.contents.specs.declared.parts.Contents.{Contents}
+use Rattle.message.specs.declared.read.Verdict.{Verdict}
 use Rattle.frame.specs.Frame.{contentsOf}
 use Rattle.form.specs.Form.{size, clockAt, putClocks, droppedClocks, orbitAt, putOrbits}
 use Rattle.mask.specs.Mask.{heldMask, sameMask, maskAt, putMask}
-use Rattle.ledger.specs.Keeps.{isPrn, orbitsOf, clocksOf, refusalUnder}
+use Rattle.ledger.specs.Keeps.{isPrn, orbitsOf, clocksOf, refusalUnder, verdictUnder}
 use Rattle.ledger.specs.Back.{maskInForce, orbitInForce, clockInForce}
 
 -- FORM: the PRN that the ledger is for
@@ -43,6 +44,10 @@ takenBytes s c =
 -- the refusal that a ledger gives a frame, 0 if it is taken
 abbrev pub takeRefusal : List ℕ → List ℕ → ℕ
 takeRefusal s f = refusalUnder (prnAt s) (maskAt s) f
+
+-- its verdict
+abbrev pub takeVerdict : List ℕ → List ℕ → Verdict
+takeVerdict s f = verdictUnder (maskAt s) f (takeRefusal s f)
 
 -- 01: a frame is taken whole or refused whole; a refusal changes nothing
 unfoldable pub takeBytes : List ℕ → List ℕ → List ℕ

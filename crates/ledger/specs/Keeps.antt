@@ -13,7 +13,10 @@ use Rattle.records.specs.declared.clock.Clock.{Clock}
 use Rattle.contents.specs.declared.parts.ClockPart.{ClockPart}
 use Rattle.contents.specs.declared.parts.OrbitPart.{OrbitPart}
 use Rattle.contents.specs.declared.parts.Contents.{Contents}
-use Rattle.frame.specs.Frame.{contentsOf, foreignTo, refusalWith}
+use Rattle.message.specs.Read.{verdictOf}
+use Rattle.message.specs.declared.read.Verdict.{Verdict}
+use Rattle.message.specs.declared.read.Verdict.the-variants.{Places}
+use Rattle.frame.specs.Frame.{contentsOf, foreignTo, refusalWith, verdictFor}
 use Rattle.store.specs.Store.{Named}
 use Rattle.form.specs.declared.HeldClock.{HeldClock}
 use Rattle.form.specs.declared.HeldOrbit.{HeldOrbit}
@@ -84,26 +87,38 @@ clocksOf m kind p =
 abbrev pub otherMask : HeldMask → ClockPart → Bool
 otherMask m p = not (m .has && eqb (m .ssr) (p .ssr) && eqb (m .iodp) (p .iodp))
 
--- 01, 15: type 4's first place, or type 6's last place
+-- 01, 15, and 02, CR 1, 19: type 4's first place, or type 6's last place
 abbrev pub placeToCheck : ℕ → ClockPart → ℕ
 placeToCheck kind p = pick (eqb kind 4) (23 * p .start + 1) (p .start + p .count - 1)
 
--- 01, 14 and 15: the lowest that applies under the mask m, 0 if none does
+-- 01, 15, and 02, CR 1: no satellite has the place: 15 in type 4, 19 in type 6
+abbrev pub placeNumber : ℕ → ℕ
+placeNumber kind = pick (eqb kind 4) 15 19
+
+-- 01, 14 and 15, and 02, CR 1, 19: the lowest that applies under the mask m, 0 if none does
 unfoldable pub placeRefusal : HeldMask → ℕ → ClockPart → ℕ
 placeRefusal m kind p =
     first
     ((14, needsMask kind p && otherMask m p)
-    ∷ (15, needsMask kind p && ltb (setCount (m .bits)) (placeToCheck kind p))
+    ∷ (placeNumber kind, needsMask kind p && ltb (setCount (m .bits)) (placeToCheck kind p))
     ∷ [])
 
--- 14 and 15 of contents
+-- 02, CR 1: the verdict of that number; 19 also gives the number of set bits
+unfoldable pub placeVerdict : HeldMask → ℕ → Verdict
+placeVerdict m n = pick (eqb n 19) (Places (setCount (m .bits))) (verdictOf n)
+
+-- 14, 15 and 19 of contents
 abbrev pub maskRefusal : HeldMask → Contents → ℕ
 maskRefusal m c = placeRefusal m (c .kind) (c .clock)
 
--- 01, Refusal numbers: 1, 3 to 13 of the frame for the ledger's PRN, then 14 and 15 under the mask m
+-- 01, Refusal numbers: 1, 3 to 13 of the frame for the ledger's PRN, then 14, 15 and 19 under the mask m
 unfoldable pub refusalUnder : ℕ → HeldMask → List ℕ → ℕ
 refusalUnder prn m f =
     first
     ((refusalWith (foreignTo prn f) f, not (eqb (refusalWith (foreignTo prn f) f) 0))
     ∷ (maskRefusal m (contentsOf f), not (eqb (maskRefusal m (contentsOf f)) 0))
     ∷ [])
+
+-- 02, CR 1: the verdict of the number n given to f under the mask m; 6 and 19 give more than their number
+unfoldable pub verdictUnder : HeldMask → List ℕ → ℕ → Verdict
+verdictUnder m f n = pick (eqb n 6) (verdictFor f n) (placeVerdict m n)

@@ -5,9 +5,8 @@ ghost use Prim.Native.Nat.{_≤_};
 ghost use Rattle.bits.specs.Pick.{pick};
 ghost use Rattle.form.specs.Form.{putClocks, putOrbits, droppedClocks};
 ghost use Rattle.mask.specs.Mask.{maskAt, heldMask, sameMask};
-ghost use Rattle.message.specs.Read.{verdictOf};
-ghost use Rattle.ledger.specs.Keeps.{heldOrbit, heldClock, orbitsOf, clocksOf, needsMask, firstPlace, placeToCheck, placeRefusal};
-ghost use Rattle.ledger.specs.Bytes.{prnAt, maskBytes, takenBytes, takeRefusal, takeBytes};
+ghost use Rattle.ledger.specs.Keeps.{heldOrbit, heldClock, orbitsOf, clocksOf, needsMask, firstPlace, placeToCheck, placeNumber, placeRefusal, placeVerdict};
+ghost use Rattle.ledger.specs.Bytes.{prnAt, maskBytes, takenBytes, takeVerdict, takeBytes};
 use crate::Ledger;
 use contents::parts::ClockPart;
 use contents::parts::Contents;
@@ -16,6 +15,8 @@ use contents::parts::OrbitPart;
 use form::HeldClock;
 use form::HeldOrbit;
 use message::read::Verdict;
+use message::read::number_of;
+use message::read::verdict_of;
 use records::clock::Clock;
 use records::orbit::Orbit;
 use records::slots::Place;
@@ -56,7 +57,14 @@ fn place_to_check(kind: u8, p: ClockPart) -> u32
     if end == 0 { 0 } else { end - 1 }
 }
 
-// Why clocks by place are refused under the mask held: 14 or 15; 0 if they are not.
+// The number for a place that no satellite has.
+fn place_number(kind: u8) -> u8
+    ensures { λ r. ⌜ r ≡ placeNumber kind ⌝ }
+{
+    if kind == 4 { 15 } else { 19 }
+}
+
+// Why clocks by place are refused under the mask held: 14, 15 or 19; 0 if they are not.
 fn place_refusal(t: &[u8], kind: u8, p: ClockPart) -> u8
     ensures { λ r. ⌜ r ≡ placeRefusal (maskAt (now (t .entry))) kind p ⌝ }
 {
@@ -73,9 +81,20 @@ fn place_refusal(t: &[u8], kind: u8, p: ClockPart) -> u8
         return 14;
     }
     if (mask::set_count(t) as u32) < place_to_check(kind, p) {
-        return 15;
+        return place_number(kind);
     }
     0
+}
+
+// The verdict on clocks by place under the mask held; 19 gives the number of places too.
+fn place_verdict(t: &[u8], kind: u8, p: ClockPart) -> Verdict
+    ensures { λ r. ⌜ r ≡ placeVerdict (maskAt (now (t .entry))) (placeRefusal (maskAt (now (t .entry))) kind p) ⌝ }
+{
+    let n = place_refusal(t, kind, p);
+    if n == 19 {
+        return Verdict::Places(mask::set_count(t));
+    }
+    verdict_of(n)
 }
 
 // A clock record as it is kept.
@@ -214,27 +233,27 @@ fn take_contents(t: &mut [u8], c: Contents)
 
 // A frame is taken into the bytes of a ledger, or refused.
 pub fn take_in(t: &mut [u8], frame: &[u8]) -> Verdict
-    ensures verdict { λ r. ⌜ r ≡ verdictOf (takeRefusal (now (t .entry)) (now (frame .entry))) ⌝ }
+    ensures verdict { λ r. ⌜ r ≡ takeVerdict (now (t .entry)) (now (frame .entry)) ⌝ }
     ensures bytes { λ r. ⌜ now (t .exit) ≡ takeBytes (now (t .entry)) (now (frame .entry)) ⌝ }
 {
     let r = frame::read_for(frame, ledger_prn(t));
-    let v = r.verdict;
-    let Verdict::Taken = v else {
-        return v;
-    };
+    let read = r.verdict;
+    if number_of(read) != 0 {
+        return read;
+    }
     let c = r.contents;
     let k = c.clock;
-    let n = place_refusal(t, c.kind, k);
-    if n != 0 {
-        return Verdict::Refused(n);
+    let placed = place_verdict(t, c.kind, k);
+    if number_of(placed) != 0 {
+        return placed;
     }
     take_contents(t, c);
     Verdict::Taken
 }
 
-// A frame is taken into a ledger: refusals 1, 3 to 15, lowest first. On a refusal every byte is as it was.
+// A frame is taken into a ledger: refusals 1, 3 to 15 and 19, lowest first. On a refusal every byte is as it was.
 pub fn take(ledger: &mut Ledger, frame: &[u8]) -> Verdict
-    ensures verdict { λ r. ⌜ r ≡ verdictOf (takeRefusal (now (ledger .entry)) (now (frame .entry))) ⌝ }
+    ensures verdict { λ r. ⌜ r ≡ takeVerdict (now (ledger .entry)) (now (frame .entry)) ⌝ }
     ensures bytes { λ r. ⌜ now (ledger .exit) ≡ takeBytes (now (ledger .entry)) (now (frame .entry)) ⌝ }
 {
     take_in(ledger, frame)

@@ -1,21 +1,36 @@
 // Reading: the answer for a message that begins at any bit, and for a message of 61 bytes.
 ghost use mathlib.Core.Path.{_≡_};
-ghost use Rattle.message.specs.Read.{verdictOf, answer, readAt, readMessage};
+ghost use Rattle.message.specs.Read.{numberOf, verdictOf, answer, readAt, readMessage};
 use crate::judge::refusal_of;
 use contents::parts::Contents;
 use contents::parts::no_contents;
 use contents::read::contents_at;
 
-// Taken, or refused with one of 01's numbers.
+// Taken, or refused: with one of 01's numbers alone, with 6 and the parity groups that fail (the first, from 1, and how many), or with 19
+// and the number of places that the mask has.
 pub enum Verdict {
     Taken,
     Refused(u8),
+    Parity(u8, u8),
+    Places(u16),
 }
 
 // The verdict with the contents beside it, which are all zero where it is a refusal.
 pub struct Reading {
     pub verdict: Verdict,
     pub contents: Contents,
+}
+
+// The number of a verdict: 0 is taken.
+pub fn number_of(v: Verdict) -> u8
+    ensures { λ r. ⌜ r ≡ numberOf v ⌝ }
+{
+    match v {
+        Verdict::Taken => 0,
+        Verdict::Refused(n) => n,
+        Verdict::Parity(_, _) => 6,
+        Verdict::Places(_) => 19,
+    }
 }
 
 // The verdict of a number: 0 is taken.

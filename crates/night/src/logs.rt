@@ -5,48 +5,44 @@ use crate::files::open_named;
 use libc::STDERR_FILENO;
 use libc::STDOUT_FILENO;
 use message::read::Verdict;
+use message::read::number_of;
 use text::put::put_byte;
 use text::put::put_bytes;
+use text::put::put_detail;
 use text::put::put_field;
 use text::put::put_number;
 
-// The counts: entry 0 for frames taken, entry n for those refused n, entry 19 for all.
-pub const ALL: usize = 19;
+// The counts: entry 0 for frames taken, entry n for those refused n, entry 20 for all.
+pub const ALL: usize = 20;
 
 // One more is counted, but for the largest number.
-fn raise(counts: &mut [u64; 20], i: usize) {
-    if i < 20 {
+fn raise(counts: &mut [u64; 21], i: usize) {
+    if i < 21 {
         if counts[i] < u64::MAX {
             counts[i] += 1;
         }
     }
 }
 
-// The number of a verdict: 0 is taken.
-fn number_of(v: Verdict) -> u8 {
-    match v {
-        Verdict::Taken => 0,
-        Verdict::Refused(n) => n,
-    }
-}
-
 // What became of a frame.
-fn put_outcome(room: &mut [u8], at: usize, refusal: u8, kind: u8) -> usize
+fn put_outcome(room: &mut [u8], at: usize, v: Verdict, kind: u8) -> usize
     ensures { λ r. ⌜ Counts r (now (room .exit)) ⌝ }
 {
+    let refusal = number_of(v);
     if refusal == 0 {
         let a = put_bytes(room, at, b" taken");
         return put_field(room, a, b"type", kind as u64);
     }
-    put_field(room, at, b"refused", refusal as u64)
+    let a = put_field(room, at, b"refused", refusal as u64);
+    put_detail(room, a, v)
 }
 
 // The line of a frame.
-fn write_frame(number: u64, refusal: u8, kind: u8) {
+fn write_frame(number: u64, v: Verdict, kind: u8) {
     let mut room = [0u8; 80];
     let a = put_bytes(&mut room, 0, b"frame ");
     let b = put_number(&mut room, a, number);
-    let c = put_outcome(&mut room, b, refusal, kind);
+    let c = put_outcome(&mut room, b, v, kind);
     let n = put_byte(&mut room, c, 10);
     io::write_all(STDOUT_FILENO, &room[..n]);
 }
@@ -64,14 +60,14 @@ fn progress(number: u64) {
 }
 
 // A frame goes through the ledger and is counted.
-fn take_frame(frame: &[u8], each: bool, ledger: &mut [u8; 9440], counts: &mut [u64; 20]) {
+fn take_frame(frame: &[u8], each: bool, ledger: &mut [u8; 9440], counts: &mut [u64; 21]) {
     let kind = bits::get8(frame, 28, 6);
-    let refusal = number_of(ledger::take::take(ledger, frame));
-    raise(counts, refusal as usize);
+    let v = ledger::take::take(ledger, frame);
+    raise(counts, number_of(v) as usize);
     raise(counts, ALL);
-    let number = counts[19];
+    let number = counts[20];
     if each {
-        write_frame(number, refusal, kind);
+        write_frame(number, v, kind);
     }
     progress(number);
 }
@@ -83,7 +79,7 @@ fn turn(
     done: u64,
     each: bool,
     ledger: &mut [u8; 9440],
-    counts: &mut [u64; 20],
+    counts: &mut [u64; 21],
 ) -> u8 {
     let mut frame = [0u8; 125];
     let p = text::input::fill(fd, &mut frame);
@@ -105,7 +101,7 @@ fn all_frames(
     name: &[u8],
     each: bool,
     ledger: &mut [u8; 9440],
-    counts: &mut [u64; 20],
+    counts: &mut [u64; 21],
 ) -> bool {
     let mut state: u8 = 0;
     let mut done: u64 = 0;
@@ -119,7 +115,7 @@ fn all_frames(
 }
 
 // The log of argument i; false where it cannot be read, and it has been said why.
-fn take_log(i: usize, each: bool, ledger: &mut [u8; 9440], counts: &mut [u64; 20]) -> bool {
+fn take_log(i: usize, each: bool, ledger: &mut [u8; 9440], counts: &mut [u64; 21]) -> bool {
     let mut path = io::buffer();
     let n = os::arg(i, &mut path);
     let fd = open_named(&path[..n]);
@@ -137,7 +133,7 @@ pub fn take_logs(
     count: usize,
     each: bool,
     ledger: &mut [u8; 9440],
-    counts: &mut [u64; 20],
+    counts: &mut [u64; 21],
 ) -> bool {
     let mut k = i;
     while k < count {

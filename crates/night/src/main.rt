@@ -47,7 +47,7 @@ fn take_and_report(prn: u8, issues: [u16; 255], i: usize, count: usize, each: bo
     let Verdict::Taken = v else {
         return;
     };
-    let mut counts = [0u64; 20];
+    let mut counts = [0u64; 21];
     if logs::take_logs(i, count, each, &mut ledger, &mut counts) {
         report::report(prn, &ledger, &issues, &counts);
     }

@@ -52,14 +52,15 @@ fn put_words_high(room: &mut [u8], at: usize, n: u8) -> usize
     match n {
         13 => put_bytes(room, at, b"mask bit set for a reserved slot"),
         14 => put_bytes(room, at, b"no mask in force, or its IOD SSR or IODP differ"),
-        15 => put_bytes(room, at, b"no satellite has the place"),
+        15 => put_bytes(room, at, b"no satellite has the sub-type's first place"),
         16 => put_bytes(
             room,
             at,
             b"a field exceeds its width, or no URA code gives the quarters",
         ),
         17 => put_bytes(room, at, b"an issue is neither 0 to 1023 nor none"),
-        _ => put_bytes(room, at, b"no such row"),
+        18 => put_bytes(room, at, b"no such row"),
+        _ => put_bytes(room, at, b"no satellite has the last place from Slot_S on"),
     }
 }
 
@@ -113,9 +114,9 @@ fn write_refusal(number: u8, times: u64) {
 }
 
 // The lines of the refusals that occurred, rising.
-fn write_refusals(counts: &[u64; 20]) {
+fn write_refusals(counts: &[u64; 21]) {
     let mut i: usize = 1;
-    while i < 19 {
+    while i < 20 {
         write_refusal(i as u8, counts[i]);
         i += 1;
     }
@@ -243,9 +244,9 @@ fn write_list(ledger: &[u8], issues: &[u16]) {
 }
 
 // The whole report.
-pub fn report(prn: u8, ledger: &[u8; 9440], issues: &[u16; 255], counts: &[u64; 20]) {
+pub fn report(prn: u8, ledger: &[u8; 9440], issues: &[u16; 255], counts: &[u64; 21]) {
     write_prn(prn);
-    write_frames(counts[19], counts[0]);
+    write_frames(counts[20], counts[0]);
     write_refusals(counts);
     write_mask(ledger);
     write_list(ledger, issues);

@@ -8,7 +8,7 @@ use contents::parts::Contents;
 use libc::STDERR_FILENO;
 use libc::STDIN_FILENO;
 use libc::STDOUT_FILENO;
-use message::read::Verdict;
+use message::read::number_of;
 use place::Place;
 use text::lines::Lines;
 use text::lines::Step;
@@ -39,11 +39,11 @@ fn say_malformed(name: &[u8], number: u64, p: Place) {
 fn write_contents(name: &[u8], number: u64, c: Contents) {
     let mut room = [0u8; 61];
     let v = writing::write(&mut room, c);
-    match v {
-        Verdict::Taken => {
-            io::write_all(STDOUT_FILENO, &room);
-        }
-        Verdict::Refused(n) => say_refused(name, number, n),
+    let n = number_of(v);
+    if n == 0 {
+        io::write_all(STDOUT_FILENO, &room);
+    } else {
+        say_refused(name, number, n);
     }
 }
 

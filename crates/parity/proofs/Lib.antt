@@ -1,1 +1,2 @@
 pub mod ParityLaws
+pub mod GroupLaws

@@ -1,40 +1,65 @@
 -- The parity check's walk over the groups, and over a group's terms, a turn at a time.
-use mathlib.Core.Path.{_≡_, sym, ap, _∙_}
-use mathlib.Core.Bool.{Bool, true, false, _&&_}
-use mathlib.Core.List.{List, []}
+use mathlib.Core.Path.{_≡_, refl, sym, _∙_}
+use mathlib.Core.Bool.{true, false, not, _&&_, Bool·not-not}
+use mathlib.Core.List.{List}
 use Prim.Native.Nat.{ℕ, suc, _+_, _-_, _<_, _≤_}
 use native.Mathlib.Omega.{arith}
-use lib.Dec.{eqb}
+use native.Mathlib.Nat.{add-zero}
 use native.Mathlib.Numerals.{add-one}
 use Rattle.bits.proofs.XorLaws.{xor-assoc}
 use lib.ListN.{getD, length, drop, drop-of-length-le}
 use lib.Seq.{drop-cons}
 use lib.Bits.{bitXor, xor-zero-r}
 use Rattle.field64.specs.Field.{product}
-use borrow.Author.Tests.{eq-eqb, ne-eqb}
-use Rattle.parity.specs.Tables.{positions, factors}
-use Rattle.parity.specs.Parity.{symbolOf, rowSum, zeroFrom}
+use Rattle.bits.specs.Pick.{pick}
+use Rattle.parity.specs.Parity.{symbolOf, rowSum, zeroFrom, groupFails, firstFrom, failingFrom}
 
--- the sum of group g
-abbrev group : List ℕ → ℕ → ℕ
-group s g = rowSum s (getD positions g []) (getD factors g [])
+-- the parity of one group more
+pub zero-suc : (s : List ℕ) (g n : ℕ) → zeroFrom s g (suc n) ≡ (not (groupFails s g) && zeroFrom s (g + 1) n)
+unfolding zeroFrom groupFails
+zero-suc s g n = rw Bool·not-not
 
-from-suc : (s : List ℕ) (g n : ℕ) → g < n → zeroFrom s g (n - g) ≡ eqb (group s g) 0 && zeroFrom s (g + 1) (n - (g + 1))
-unfolding zeroFrom
+from-suc : (s : List ℕ) (g n : ℕ) → g < n → zeroFrom s g (n - g) ≡ (not (groupFails s g) && zeroFrom s (g + 1) (n - (g + 1)))
 from-suc s g n h =
     let e : n - g ≡ suc (n - (g + 1)) = omega arith in
-    rw e
+    rw e (zero-suc s g (n - (g + 1)))
 
--- a group whose sum is zero, one whose sum is not, and none left
-pub from-zero : (s : List ℕ) (g n : ℕ) → g < n → group s g ≡ 0 → zeroFrom s (g + 1) (n - (g + 1)) ≡ zeroFrom s g (n - g)
-from-zero s g n h e = sym (from-suc s g n h ∙ ap (λ (t : Bool). t && zeroFrom s (g + 1) (n - (g + 1))) (eq-eqb (group s g) 0 e))
+-- the next group of a walk up: it passes, it fails, and none left
+pub from-passes : (s : List ℕ) (g n : ℕ) → g < n → groupFails s g ≡ false → zeroFrom s (g + 1) (n - (g + 1)) ≡ zeroFrom s g (n - g)
+from-passes s g n h e = sym (from-suc s g n h ∙ rw e refl)
 
-pub from-other : (s : List ℕ) (g n : ℕ) → g < n → (group s g ≡ 0 → ⊥) → false ≡ zeroFrom s g (n - g)
-from-other s g n h e = sym (from-suc s g n h ∙ ap (λ (t : Bool). t && zeroFrom s (g + 1) (n - (g + 1))) (ne-eqb (group s g) 0 e))
+pub from-fails : (s : List ℕ) (g n : ℕ) → g < n → groupFails s g ≡ true → false ≡ zeroFrom s g (n - g)
+from-fails s g n h e = sym (from-suc s g n h ∙ rw e refl)
 
 pub from-end : (s : List ℕ) (g n : ℕ) → n ≤ g → true ≡ zeroFrom s g (n - g)
 unfolding zeroFrom
 from-end s g n h = let e : n - g ≡ 0 = omega arith in rw e
+
+-- the next group of a walk down: what was found above it, with that group
+module _ (s : List ℕ) (g n : ℕ) (above : 0 < g) (within : g ≤ n) where
+  first-down : firstFrom s (g - 1) (n - (g - 1)) ≡ pick (groupFails s (g - 1)) g (firstFrom s g (n - g))
+  unfolding firstFrom
+  first-down =
+      let e : n - (g - 1) ≡ suc (n - g) = omega arith in
+      let d : g - 1 + 1 ≡ g = omega arith in
+      rw (e, d)
+
+  failing-down : failingFrom s (g - 1) (n - (g - 1)) ≡ failingFrom s g (n - g) + pick (groupFails s (g - 1)) 1 0
+  unfolding failingFrom
+  failing-down =
+      let e : n - (g - 1) ≡ suc (n - g) = omega arith in
+      let d : g - 1 + 1 ≡ g = omega arith in
+      rw (e, d)
+
+  -- it fails
+  pub down-fails : groupFails s (g - 1) ≡ true
+      → (g ≡ firstFrom s (g - 1) (n - (g - 1))) × (failingFrom s g (n - g) + 1 ≡ failingFrom s (g - 1) (n - (g - 1)))
+  down-fails f = (sym (rw f at first-down), sym (rw f at failing-down))
+
+  -- it passes
+  pub down-passes : groupFails s (g - 1) ≡ false
+      → (firstFrom s g (n - g) ≡ firstFrom s (g - 1) (n - (g - 1))) × (failingFrom s g (n - g) ≡ failingFrom s (g - 1) (n - (g - 1)))
+  down-passes f = (sym (rw f at first-down), sym (rw (f, add-zero) at failing-down))
 
 -- factor times symbol, at place k of a group
 abbrev pub term : List ℕ → List ℕ → List ℕ → ℕ → ℕ

@@ -3,7 +3,7 @@ ghost use mathlib.Core.Path.{_≡_};
 ghost use mathlib.Core.List.{[]};
 ghost use Prim.Native.Nat.{_<_};
 ghost use lib.ListN.{getD};
-ghost use Rattle.parity.specs.Parity.{symbolOf, rowSum, parityOk};
+ghost use Rattle.parity.specs.Parity.{symbolOf, rowSum, groupFails, parityOk, failedGroups};
 ghost use Rattle.parity.specs.Tables.{positions, factors};
 
 // 000, section 6.1.3, H81,162,index: the positions of each group, down each printed column, columns left to right.
@@ -212,16 +212,47 @@ fn row(frame: &[u8], p: [u8; 4], f: [u8; 4]) -> u8
     s
 }
 
+// Group g fails: its sum is not zero.
+fn fails(frame: &[u8], g: usize) -> bool
+    requires { ⌜ g < 81 ⌝ }
+    ensures { λ r. ⌜ r ≡ groupFails (now (frame .entry)) g ⌝ }
+{
+    row(frame, positions_of(g), factors_of(g)) != 0
+}
+
 // The sum of every group is zero.
 pub fn parity_ok(frame: &[u8]) -> bool
     ensures { λ r. ⌜ r ≡ parityOk (now (frame .entry)) ⌝ }
 {
     let mut g: usize = 0;
     while g < 81 {
-        if row(frame, positions_of(g), factors_of(g)) != 0 {
+        if fails(frame, g) {
             return false;
         }
         g += 1;
     }
     true
+}
+
+// The first failing group, counted from 1, and how many fail; both 0 if none fails.
+pub struct Groups {
+    pub first: u8,
+    pub failing: u8,
+}
+
+// The first failing group and how many fail: from the last group down to the first.
+pub fn failed_groups(frame: &[u8]) -> Groups
+    ensures { λ r. ⌜ r ≡ failedGroups (now (frame .entry)) ⌝ }
+{
+    let mut first: u8 = 0;
+    let mut failing: u8 = 0;
+    let mut g: u8 = 81;
+    while 0 < g {
+        if fails(frame, (g as usize) - 1) {
+            first = g;
+            failing += 1;
+        }
+        g -= 1;
+    }
+    Groups { first, failing }
 }

@@ -6,16 +6,19 @@ use libc::STDERR_FILENO;
 use libc::STDIN_FILENO;
 use libc::STDOUT_FILENO;
 use message::read::Verdict;
+use message::read::number_of;
 use text::put::put_byte;
 use text::put::put_bytes;
+use text::put::put_detail;
 use text::put::put_number;
 
 // The line of a refusal.
-fn write_refused(n: u8) {
-    let mut room = [0u8; 40];
+fn write_refused(v: Verdict) {
+    let mut room = [0u8; 60];
     let a = put_bytes(&mut room, 0, b"refused ");
-    let b = put_number(&mut room, a, n as u64);
-    let k = put_byte(&mut room, b, 10);
+    let b = put_number(&mut room, a, number_of(v) as u64);
+    let d = put_detail(&mut room, b, v);
+    let k = put_byte(&mut room, d, 10);
     io::write_all(STDOUT_FILENO, &room[..k]);
 }
 
@@ -42,12 +45,11 @@ fn write_frame(prn: u8, c: Contents) {
 fn show_message(s: &[u8]) {
     let r = message::read::read(s);
     let v = r.verdict;
-    match v {
-        Verdict::Taken => {
-            let c = r.contents;
-            write_message(c);
-        }
-        Verdict::Refused(n) => write_refused(n),
+    if number_of(v) == 0 {
+        let c = r.contents;
+        write_message(c);
+    } else {
+        write_refused(v);
     }
 }
 
@@ -55,12 +57,11 @@ fn show_message(s: &[u8]) {
 fn show_frame(s: &[u8]) {
     let r = frame::read_frame(s);
     let v = r.verdict;
-    match v {
-        Verdict::Taken => {
-            let c = r.contents;
-            write_frame(frame::prn_of(s), c);
-        }
-        Verdict::Refused(n) => write_refused(n),
+    if number_of(v) == 0 {
+        let c = r.contents;
+        write_frame(frame::prn_of(s), c);
+    } else {
+        write_refused(v);
     }
 }
 

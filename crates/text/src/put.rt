@@ -1,6 +1,7 @@
 // Text put into a lent room at a place. Each function answers the place after it, which is never past the room's end;
 // what does not fit is left out.
 ghost use Rattle.io.specs.Counts.{Counts};
+use message::read::Verdict;
 use records::ura::Ura;
 
 // The place itself, or the room's end where it lies past that.
@@ -141,6 +142,21 @@ pub fn put_field(room: &mut [u8], at: usize, word: &[u8], x: u64) -> usize
     let b = put_bytes(room, a, word);
     let c = put_byte(room, b, b' ');
     put_number(room, c, x)
+}
+
+// What a refusal says beside its number: of 6 the first failing group and how many fail, of 19 the number of places.
+pub fn put_detail(room: &mut [u8], at: usize, v: Verdict) -> usize
+    ensures { λ r. ⌜ Counts r (now (room .exit)) ⌝ }
+{
+    match v {
+        Verdict::Taken => place_in(room, at),
+        Verdict::Refused(_) => place_in(room, at),
+        Verdict::Parity(first, failing) => {
+            let a = put_field(room, at, b"group", first as u64);
+            put_field(room, a, b"failing", failing as u64)
+        }
+        Verdict::Places(set) => put_field(room, at, b"places", set as u64),
+    }
 }
 
 // A program and a file: the start of a complaint.

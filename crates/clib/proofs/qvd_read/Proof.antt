@@ -17,8 +17,8 @@ read-requires c κs = search needs
 put-contents-requires : tie.Need-put-contents-requires
 put-contents-requires c κs = search needs
 
-number-requires : tie.Need-number-requires
-number-requires c κs = search needs
+number-of-requires : tie.Need-number-of-requires
+number-of-requires c κs = search needs
 
 same-length : tie.Need-same-length
 same-length c = search needs
@@ -28,10 +28,10 @@ returns-2 c =
     let a = c .before .before .before .before .before .before .before .before .before .before .args in
     let r = c .before .before .before .before .before .before .read .ensures in
     read-right (a .message .now) (a .contents .now) _ _ (c .before .before .before .before .before .before .before .if1 .left)
-    (c .number .ensures ∙ ap (λ (x : Reading). numberOf (x .verdict)) r)
+    (c .number-of .ensures ∙ ap (λ (x : Reading). numberOf (x .verdict)) r)
     (c .before .before .before .put-contents .ensures ∙ ap (λ (x : Reading). storeAt (a .contents .now) 0 (contentsBytes (x .contents))) r)
 
 pub qvd-read-spec : {M : Type 1} → statement M
 qvd-read-spec =
     tie.close
-    (tie.spec returns read-requires put-contents-requires number-requires same-length returns-2)
+    (tie.spec returns read-requires put-contents-requires number-of-requires same-length returns-2)

@@ -16,8 +16,8 @@ contents-of-requires c κs = search needs
 write-requires : tie.Need-write-requires
 write-requires c κs = search needs
 
-number-requires : tie.Need-number-requires
-number-requires c κs = search needs
+number-of-requires : tie.Need-number-of-requires
+number-of-requires c κs = search needs
 
 same-length : tie.Need-same-length
 same-length c = search needs
@@ -27,10 +27,10 @@ returns-2 c =
     let a = c .before .before .before .before .before .before .before .before .before .args in
     let k = c .before .before .before .before .contents-of .ensures in
     write-right (a .contents .now) (a .room .now) _ _ (c .before .before .before .before .before .before .if1 .left)
-    (c .number .ensures ∙ ap numberOf (c .before .before .before .write .ensures .0) ∙ ap (λ (x : Contents). numberOf (verdictOf (writeRefusal (a .room .now) x))) k)
+    (c .number-of .ensures ∙ ap numberOf (c .before .before .before .write .ensures .0) ∙ ap (λ (x : Contents). numberOf (verdictOf (writeRefusal (a .room .now) x))) k)
     (c .before .before .before .write .ensures .1 ∙ ap (written (a .room .now)) k)
 
 pub qvd-write-spec : {M : Type 1} → statement M
 qvd-write-spec =
     tie.close
-    (tie.spec returns contents-of-requires write-requires number-requires same-length returns-2)
+    (tie.spec returns contents-of-requires write-requires number-of-requires same-length returns-2)

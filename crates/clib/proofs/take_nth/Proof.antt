@@ -30,8 +30,8 @@ part-take-in-end c = ⊎-elim (λ w. omega arith) (λ w. omega arith) (c .before
 take-in-requires : tie.Need-take-in-requires
 take-in-requires c κs = search needs
 
-number-requires : tie.Need-number-requires
-number-requires c κs = search needs
+number-of-requires : tie.Need-number-of-requires
+number-of-requires c κs = search needs
 
 same-length : tie.Need-same-length
 same-length c = search needs
@@ -39,7 +39,7 @@ same-length c = search needs
 returns : tie.Need-returns
 returns c =
     let a = c .before .before .before .before .before .before .before .before .before .before .args in (
-      c .number .ensures
+      c .number-of .ensures
           ∙ ap numberOf (c .before .before .before .take-in .ensures .0)
           ∙ ap (frameNumber (a .t .now)) (⊎-elim (λ w. rw (w .1) (piece-last (a .log .now) (a .i) (w .0 .taken))) (λ w. rw (w .1) (piece-whole (a .log .now) (a .i))) (c .before .before .before .before .before .before .before .if1 .came)),
       c .before .before .before .take-in .ensures .1 ∙ ap (takeBytes (a .t .now)) (⊎-elim (λ w. rw (w .1) (piece-last (a .log .now) (a .i) (w .0 .taken))) (λ w. rw (w .1) (piece-whole (a .log .now) (a .i))) (c .before .before .before .before .before .before .before .if1 .came)),
@@ -56,6 +56,6 @@ take-nth-spec =
     part-take-in-start
     part-take-in-end
     take-in-requires
-    number-requires
+    number-of-requires
     same-length
     returns)

@@ -1,26 +1,24 @@
 use borrow.Author.Needs.{needs}
-use borrow.Author.Tests.{eq-eqb, ne-eqb}
-use Rattle.message.specs.Read.{answer}
-use Rattle.message.proofs.ReadLaws.{number-last}
-use Rattle.frame.specs.Frame.{refusalWith}
+use mathlib.Core.Path.{sym, ap, _∙_}
+use Rattle.message.specs.Read.{numberOf}
+use Rattle.frame.proofs.VerdictLaws.{way-shut, way-open}
 use Rattle.frame.proofs.read_with.Statement.{statement}
 use Rattle.frame.proofs.read_with.Tie as tie
 
-shell-refusal-requires : tie.Need-shell-refusal-requires
-shell-refusal-requires c κs = search needs
+shell-verdict-requires : tie.Need-shell-verdict-requires
+shell-verdict-requires c κs = search needs
+
+number-of-requires : tie.Need-number-of-requires
+number-of-requires c κs = search needs
 
 no-contents-requires : tie.Need-no-contents-requires
 no-contents-requires c κs = search needs
 
-answer-of-requires : tie.Need-answer-of-requires
-answer-of-requires c κs = search needs
-
 returns : tie.Need-returns
-unfolding refusalWith answer
 returns c =
-    let c1 = c .before .before in
-    let other = ne-eqb _ _ (c1 .if1 .taken) in
-    rw (← (c1 .before .shell-refusal .ensures), other, other) (rw other at (c .answer-of .ensures))
+    let tested = c .before in
+    let shell = tested .before .before .shell-verdict in
+    way-shut _ _ (shell .result) (c .no-contents .result) (shell .ensures) (c .no-contents .ensures) (λ z. tested .if1 .taken (tested .before .number-of .ensures ∙ z))
 
 contents-at-requires : tie.Need-contents-at-requires
 contents-at-requires c κs = search needs
@@ -28,30 +26,24 @@ contents-at-requires c κs = search needs
 refusal-of-requires : tie.Need-refusal-of-requires
 refusal-of-requires c κs = search needs
 
-answer-of-requires-2 : tie.Need-answer-of-requires-2
-answer-of-requires-2 c κs = search needs
+answer-of-requires : tie.Need-answer-of-requires
+answer-of-requires c κs = search needs
 
 returns-2 : tie.Need-returns-2
-unfolding refusalWith
 returns-2 c =
-    let c1 = c .before .before .before in
-    rw (
-      ← (c1 .before .shell-refusal .ensures),
-      eq-eqb _ _ (c1 .if1 .left),
-      number-last _,
-      ← (c .before .before .contents-at .ensures),
-      ← (c .before .refusal-of .ensures),
-    ) (c .answer-of2 .ensures)
+    let tested = c .before .before .before in
+    let shell = tested .before .before .shell-verdict in
+    way-open _ _ (shell .result) (c .answer-of .result) (shell .ensures) (sym (tested .before .number-of .ensures) ∙ tested .if1 .left) (rw (← (c .before .before .contents-at .ensures), ← (c .before .refusal-of .ensures)) (c .answer-of .ensures))
 
 pub read-with-spec : {M : Type 1} → statement M
 read-with-spec =
     tie.close
     (tie.spec
-    shell-refusal-requires
+    shell-verdict-requires
+    number-of-requires
     no-contents-requires
-    answer-of-requires
     returns
     contents-at-requires
     refusal-of-requires
-    answer-of-requires-2
+    answer-of-requires
     returns-2)

@@ -2,7 +2,7 @@ use mathlib.Core.Path.{_≡_, refl, sym, _∙_}
 use Prim.Native.Nat.{_-_}
 use borrow.Author.Needs.{needs}
 use Rattle.parity.specs.Parity.{zeroFrom, parityOk}
-use Rattle.parity.proofs.ParityLaws.{from-zero, from-other, from-end}
+use Rattle.parity.proofs.ParityLaws.{from-passes, from-fails, from-end}
 use Rattle.parity.proofs.parity_ok.Statement.{statement}
 use Rattle.parity.proofs.parity_ok.Tie as tie
 
@@ -16,21 +16,13 @@ loop-holds : tie.Need-loop-holds Inv-loop μ-loop
 unfolding parityOk
 loop-holds c = refl
 
-positions-of-requires : tie.Need-positions-of-requires Inv-loop μ-loop
-positions-of-requires c κs = search needs
-
-factors-of-requires : tie.Need-factors-of-requires Inv-loop μ-loop
-factors-of-requires c κs = search needs
-
-row-requires : tie.Need-row-requires Inv-loop μ-loop
-row-requires c κs = search needs
+fails-requires : tie.Need-fails-requires Inv-loop μ-loop
+fails-requires c κs = search needs
 
 returns : tie.Need-returns Inv-loop μ-loop
 returns c =
-    let b = c .before in
-    let e = rw (b .before .before .positions-of .ensures, b .before .factors-of .ensures) at (b .row .ensures) in
-    let l = b .before .before .before .before .loop in
-    from-other _ (l .g) 81 (search needs) (λ z. c .if1 .taken (e ∙ z)) ∙ l .inv
+    let l = c .before .before .before .loop in
+    from-fails _ (l .g) 81 (search needs) (sym (c .before .fails .ensures) ∙ c .if1 .taken) ∙ l .inv
 
 add-g : tie.Need-add-g Inv-loop μ-loop
 add-g c = search needs
@@ -40,10 +32,8 @@ loop-less c = search needs
 
 loop-again : tie.Need-loop-again Inv-loop μ-loop
 loop-again c =
-    let b = c .before in
-    let e = rw (b .before .before .positions-of .ensures, b .before .factors-of .ensures) at (b .row .ensures) in
-    let l = b .before .before .before .before .loop in
-    from-zero _ (l .g) 81 (search needs) (sym e ∙ c .if1 .left) ∙ l .inv
+    let l = c .before .before .before .loop in
+    from-passes _ (l .g) 81 (search needs) (sym (c .before .fails .ensures) ∙ c .if1 .left) ∙ l .inv
 
 returns-2 : tie.Need-returns-2 Inv-loop μ-loop
 returns-2 c = from-end _ (c .before .loop .g) 81 (c .loop-test .left) ∙ c .before .loop .inv
@@ -55,9 +45,7 @@ parity-ok-spec =
     Inv-loop
     μ-loop
     loop-holds
-    positions-of-requires
-    factors-of-requires
-    row-requires
+    fails-requires
     returns
     add-g
     loop-less

@@ -59,9 +59,13 @@ cast-if5 c = search needs
 place-to-check-requires : tie.Need-place-to-check-requires
 place-to-check-requires c κs = search needs
 
+place-number-requires : tie.Need-place-number-requires
+place-number-requires c κs = search needs
+
 returns-5 : tie.Need-returns-5
 returns-5 c =
-    let c4 = c .before .before .before in
+    let c5 = c .before in
+    let c4 = c5 .before .before .before in
     let c3 = c4 .before .before .before in
     let c2 = c3 .before .before .before in
     let c1 = c2 .before .before in
@@ -70,7 +74,8 @@ returns-5 c =
     let has = sym (c2 .before .has-mask .ensures) ∙ not-false _ (c2 .if2 .left) in
     let ssr = sym (c3 .before .before .mask-ssr .ensures) ∙ c3 .if3 .left in
     let iodp = sym (c4 .before .before .mask-iodp .ensures) ∙ c4 .if4 .left in
-    sym (place-past (maskAt (a .t .now)) (a .kind) (a .p) needed has ssr iodp (rw (c .before .before .set-count .ensures, c .before .place-to-check .ensures) at (c .if5 .taken)))
+    let past = place-past (maskAt (a .t .now)) (a .kind) (a .p) needed has ssr iodp in
+    c .place-number .ensures ∙ sym (past (rw (c5 .before .before .set-count .ensures, c5 .before .place-to-check .ensures) at (c5 .if5 .taken)))
 
 returns-6 : tie.Need-returns-6
 returns-6 c =
@@ -100,5 +105,6 @@ place-refusal-spec =
     set-count-requires
     cast-if5
     place-to-check-requires
+    place-number-requires
     returns-5
     returns-6)

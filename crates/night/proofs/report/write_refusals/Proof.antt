@@ -10,10 +10,10 @@ use Rattle.night.proofs.report.write_refusals.Lts as lts
 use Rattle.night.proofs.report.write_refusal.Reads as write-refusal-reads
 
 abbrev Inv-loop : tie.InvT-loop
-Inv-loop counts i₀ i = i ≤ 19
+Inv-loop counts i₀ i = i ≤ 20
 
 abbrev μ-loop : tie.MeasureT-loop
-μ-loop counts i₀ i = 19 - i
+μ-loop counts i₀ i = 20 - i
 
 loop-holds : tie.Need-loop-holds Inv-loop μ-loop
 loop-holds c = search needs

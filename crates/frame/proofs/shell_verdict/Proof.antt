@@ -1,23 +1,26 @@
 use borrow.Author.Needs.{needs}
 use borrow.Author.Tests.{eq-eqb, ne-eqb, not-true, not-false}
-use mathlib.Core.Path.{sym, _∙_}
-use Rattle.frame.specs.Frame.{shellRefusal}
-use Rattle.frame.proofs.shell_refusal.Statement.{statement}
-use Rattle.frame.proofs.shell_refusal.Tie as tie
+use mathlib.Core.Path.{sym, ap, _∙_}
+use lib.Dec.{eqb}
+use Rattle.parity.specs.declared.Groups.{Groups}
+use Rattle.parity.proofs.GroupLaws.{parity-none}
+use Rattle.frame.specs.Frame.{shellRefusal, verdictFor}
+use Rattle.frame.proofs.shell_verdict.Statement.{statement}
+use Rattle.frame.proofs.shell_verdict.Tie as tie
 
 returns : tie.Need-returns
-unfolding shellRefusal
+unfolding shellRefusal verdictFor
 returns c = rw (ne-eqb _ _ (c .if1 .taken))
 
 get16-requires : tie.Need-get16-requires
 get16-requires c κs = search needs
 
 returns-2 : tie.Need-returns-2
-unfolding shellRefusal
+unfolding shellRefusal verdictFor
 returns-2 c = rw (eq-eqb _ _ (c .before .before .if1 .left), ← (c .before .get16 .ensures), ne-eqb _ _ (c .if2 .taken))
 
 returns-3 : tie.Need-returns-3
-unfolding shellRefusal
+unfolding shellRefusal verdictFor
 returns-3 c =
     let c2 = c .before in
     rw (eq-eqb _ _ (c2 .before .before .if1 .left), ← (c2 .before .get16 .ensures), eq-eqb _ _ (c2 .if2 .left), c .if3 .taken)
@@ -26,7 +29,7 @@ bit-requires : tie.Need-bit-requires
 bit-requires c κs = search needs
 
 returns-4 : tie.Need-returns-4
-unfolding shellRefusal
+unfolding shellRefusal verdictFor
 returns-4 c =
     let c3 = c .before .before in
     let c2 = c3 .before in
@@ -39,15 +42,17 @@ returns-4 c =
       eq-eqb _ _ (c .if4 .taken),
     )
 
-parity-ok-requires : tie.Need-parity-ok-requires
-parity-ok-requires c κs = search needs
+failed-groups-requires : tie.Need-failed-groups-requires
+failed-groups-requires c κs = search needs
 
 returns-5 : tie.Need-returns-5
-unfolding shellRefusal
+unfolding shellRefusal verdictFor
 returns-5 c =
-    let c4 = c .before .before in
+    let groups = c .before .before .failed-groups .ensures in
+    let c4 = c .before .before .before in
     let c3 = c4 .before .before in
     let c2 = c3 .before in
+    let f = c2 .before .before .before .before .args .f .now in
     rw (
       eq-eqb _ _ (c2 .before .before .if1 .left),
       ← (c2 .before .get16 .ensures),
@@ -55,19 +60,22 @@ returns-5 c =
       c3 .if3 .left,
       ← (c4 .before .bit .ensures),
       ne-eqb _ _ (c4 .if4 .left),
-      sym (c .before .parity-ok .ensures) ∙ not-true _ (c .if5 .taken),
+      parity-none f ∙ ap (λ (g : Groups). eqb (g .failing) 0) (sym groups) ∙ ne-eqb _ _ (c .if5 .taken),
+      ← groups,
     )
 
 check-ok-requires : tie.Need-check-ok-requires
 check-ok-requires c κs = search needs
 
 returns-6 : tie.Need-returns-6
-unfolding shellRefusal
+unfolding shellRefusal verdictFor
 returns-6 c =
     let c5 = c .before .before in
-    let c4 = c5 .before .before in
+    let groups = c5 .before .before .failed-groups .ensures in
+    let c4 = c5 .before .before .before in
     let c3 = c4 .before .before in
     let c2 = c3 .before in
+    let f = c2 .before .before .before .before .args .f .now in
     rw (
       eq-eqb _ _ (c2 .before .before .if1 .left),
       ← (c2 .before .get16 .ensures),
@@ -75,17 +83,19 @@ returns-6 c =
       c3 .if3 .left,
       ← (c4 .before .bit .ensures),
       ne-eqb _ _ (c4 .if4 .left),
-      sym (c5 .before .parity-ok .ensures) ∙ not-false _ (c5 .if5 .left),
+      parity-none f ∙ ap (λ (g : Groups). eqb (g .failing) 0) (sym groups) ∙ eq-eqb _ _ (c5 .if5 .left),
       sym (c .before .check-ok .ensures) ∙ not-true _ (c .if6 .taken),
     )
 
 returns-7 : tie.Need-returns-7
-unfolding shellRefusal
+unfolding shellRefusal verdictFor
 returns-7 c =
     let c5 = c .before .before in
-    let c4 = c5 .before .before in
+    let groups = c5 .before .before .failed-groups .ensures in
+    let c4 = c5 .before .before .before in
     let c3 = c4 .before .before in
     let c2 = c3 .before in
+    let f = c2 .before .before .before .before .args .f .now in
     rw (
       eq-eqb _ _ (c2 .before .before .if1 .left),
       ← (c2 .before .get16 .ensures),
@@ -93,12 +103,12 @@ returns-7 c =
       c3 .if3 .left,
       ← (c4 .before .bit .ensures),
       ne-eqb _ _ (c4 .if4 .left),
-      sym (c5 .before .parity-ok .ensures) ∙ not-false _ (c5 .if5 .left),
+      parity-none f ∙ ap (λ (g : Groups). eqb (g .failing) 0) (sym groups) ∙ eq-eqb _ _ (c5 .if5 .left),
       sym (c .before .check-ok .ensures) ∙ not-false _ (c .if6 .left),
     )
 
-pub shell-refusal-spec : {M : Type 1} → statement M
-shell-refusal-spec =
+pub shell-verdict-spec : {M : Type 1} → statement M
+shell-verdict-spec =
     tie.close
     (tie.spec
     returns
@@ -107,7 +117,7 @@ shell-refusal-spec =
     returns-3
     bit-requires
     returns-4
-    parity-ok-requires
+    failed-groups-requires
     returns-5
     check-ok-requires
     returns-6

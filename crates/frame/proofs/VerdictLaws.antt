@@ -1,0 +1,104 @@
+-- Laws of a frame's verdict: its number, and which numbers a frame has by itself.
+use mathlib.Core.Path.{_≡_, sym, ap, _∙_}
+use mathlib.Core.Logic.{_≢_, dite}
+use mathlib.Core.Bool.{Bool, not}
+use mathlib.Core.List.{List, [], _∷_}
+use Prim.Native.Nat.{ℕ, _≤_}
+use lib.Dec.{eqb}
+use lib.ListN.{length}
+use native.Mathlib.Decide.{ℕ-discrete}
+use native.Mathlib.Omega.{arith}
+use borrow.Author.Tests.{eq-eqb, ne-eqb}
+use Rattle.bits.specs.Some.{first}
+use Rattle.bits.specs.Bits.{bitAt, fieldAt}
+use Rattle.check24.specs.Check.{checkOk}
+use Rattle.parity.specs.Parity.{parityOk}
+use Rattle.contents.specs.Parts.{noContents}
+use Rattle.contents.specs.declared.parts.Contents.{Contents}
+use Rattle.contents.proofs.LayoutLaws.{pick-all}
+use Rattle.message.specs.Judge.{isKind, tooLong, late, highSlot, twice, reservedBit, refusalOf}
+use Rattle.message.specs.Read.{numberOf, verdictOf, answer}
+use Rattle.message.specs.declared.read.Verdict.{Verdict}
+use Rattle.message.specs.declared.read.Reading.{Reading}
+use Rattle.message.proofs.ReadLaws.{number-back}
+use Rattle.frame.specs.Frame.{contentsOf, shellRefusal, refusalWith, verdictFor, readWith}
+use Rattle.frame.proofs.FrameLaws.{leading, second}
+
+-- a number other than 6 is told alone
+pub told-alone : (f : List ℕ) (n : ℕ) → n ≢ 6 → verdictFor f n ≡ verdictOf n
+unfolding verdictFor
+told-alone f n e = rw (ne-eqb n 6 e)
+
+-- the number of a number's verdict is that number
+pub verdict-number : (f : List ℕ) (n : ℕ) → numberOf (verdictFor f n) ≡ n
+unfolding verdictFor
+verdict-number f n = dite (ℕ-discrete n 6) (λ e. rw (eq-eqb n 6 e) (sym e)) (λ e. rw (ne-eqb n 6 e) (number-back n))
+
+-- what holds of 0 and of each of six numbers holds of the first that is given
+among : (P : ℕ → Type 0) (a b c d e f : ℕ) → P 0 → P a → P b → P c → P d → P e → P f → (p q r s t u : Bool) → P (first ((a, p) ∷ (b, q) ∷ (c, r) ∷ (d, s) ∷ (e, t) ∷ (f, u) ∷ []))
+among P a b c d e f z pa pb pc pd pe pf p q r s t u =
+    let g6 = pick-all P u f 0 pf z in
+    let g5 = pick-all P t e _ pe g6 in
+    let g4 = pick-all P s d _ pd g5 in
+    let g3 = pick-all P r c _ pc g4 in
+    pick-all P p a _ pa (pick-all P q b _ pb g3)
+
+-- a number that is none of 0 and 8 to 13 is not given to contents
+contents-none : (n : ℕ) → n ≢ 0 → ((k : ℕ) → 8 ≤ k → k ≤ 13 → k ≢ n) → (c : Contents) → refusalOf c ≢ n
+unfolding refusalOf
+contents-none n z far c =
+    among (λ (x : ℕ). x ≢ n) 8 9 10 11 12 13 (λ e. z (sym e))
+    (far 8 (omega arith) (omega arith))
+    (far 9 (omega arith) (omega arith))
+    (far 10 (omega arith) (omega arith))
+    (far 11 (omega arith) (omega arith))
+    (far 12 (omega arith) (omega arith))
+    (far 13 (omega arith) (omega arith))
+    (not (isKind (c .kind)))
+    (tooLong (c .kind) (c .clock .count) (c .orbit .count))
+    (late (c .mask .epoch) (c .clock .epoch) (c .orbit .epoch))
+    (highSlot (c .kind) (c .clock) (c .orbit))
+    (twice (c .clock) (c .orbit))
+    (reservedBit (c .mask .bits))
+
+-- contents are not refused 6
+pub contents-not-6 : (c : Contents) → refusalOf c ≢ 6
+contents-not-6 = contents-none 6 (omega arith) (λ k l h. omega arith)
+
+shell-not-19 : (foreign : Bool) (f : List ℕ) → shellRefusal foreign f ≢ 19
+unfolding shellRefusal
+shell-not-19 foreign f =
+    among (λ (x : ℕ). x ≢ 19) 1 3 4 5 6 7 (omega arith) (omega arith) (omega arith) (omega arith) (omega arith) (omega arith) (omega arith)
+    (not (eqb (length f) 125))
+    (not (eqb (fieldAt f 0 16) 0xEB90))
+    foreign
+    (eqb (bitAt f 22) 1)
+    (not (parityOk f))
+    (not (checkOk f 28 462))
+
+-- 19 is no number of a frame by itself
+pub frame-not-19 : (foreign : Bool) (f : List ℕ) → refusalWith foreign f ≢ 19
+unfolding refusalWith
+frame-not-19 foreign f =
+    let shell = shellRefusal foreign f in
+    let inner = refusalOf (contentsOf f) in
+    let rest = pick-all (λ (n : ℕ). n ≢ 19) (not (eqb inner 0)) inner 0 (contents-none 19 (omega arith) (λ k l h. omega arith) (contentsOf f)) (omega arith) in
+    pick-all (λ (n : ℕ). n ≢ 19) (not (eqb shell 0)) shell _ (shell-not-19 foreign f) rest
+
+-- ---- the two ways that reading a frame goes
+module _ (foreign : Bool) (f : List ℕ) where
+  -- the frame around its message is refused
+  pub way-shut : (v : Verdict) (c : Contents) → v ≡ verdictFor f (shellRefusal foreign f) → c ≡ noContents → numberOf v ≢ 0 → _≡_ {A = Reading} (record { verdict = v; contents = c }) (readWith foreign f)
+  unfolding readWith refusalWith
+  way-shut v c e z n =
+      let q = shellRefusal foreign f in
+      let some : q ≢ 0 = λ a. n (ap numberOf e ∙ verdict-number f q ∙ a) in
+      rw (leading q (refusalOf (contentsOf f)) some, ne-eqb q 0 some, e, z)
+
+  -- it is not, and its contents are judged
+  pub way-open : (v : Verdict) (r : Reading) → v ≡ verdictFor f (shellRefusal foreign f) → numberOf v ≡ 0 → r ≡ answer (refusalOf (contentsOf f)) (contentsOf f) → r ≡ readWith foreign f
+  unfolding readWith refusalWith answer
+  way-open v r e n a =
+      let q = refusalOf (contentsOf f) in
+      let zero = sym (verdict-number f (shellRefusal foreign f)) ∙ ap numberOf (sym e) ∙ n in
+      a ∙ rw (second (shellRefusal foreign f) q zero, told-alone f q (contents-not-6 (contentsOf f)))
