@@ -31,7 +31,8 @@ run-xor (suc n) s t a c b ha hc =
     ap₂ (λ (x y : ℕ). productRun n x y (b / 2)) (add-xor s t a c b) (twice-xor a c ha hc)
     ∙ run-xor n (addIf s a b) (addIf t c b) (twiceOf a) (twiceOf c) (b / 2) (twice-lt a ha) (twice-lt c hc)
 
-six : (a : ℕ) → a % 64 < 64
+-- the six low digits make an element
+pub six : (a : ℕ) → a % 64 < 64
 six a = mod-lt a (zero-lt-suc 63)
 
 -- through a sum on the left
@@ -93,7 +94,7 @@ product-twice-left a b ha =
     ∙ run-twice 6 0 a (b % 64) (lit< tt) ha
     ∙ ap (λ (x : ℕ). twiceOf (productRun 6 0 x (b % 64))) (sym (mod-eq-of-lt ha))
 
-product-twice : (f a : ℕ) → a < 64 → product f (twiceOf a) ≡ twiceOf (product f a)
+pub product-twice : (f a : ℕ) → a < 64 → product f (twiceOf a) ≡ twiceOf (product f a)
 product-twice f a ha = product-comm f (twiceOf a) ∙ product-twice-left a f ha ∙ ap twiceOf (product-comm a f)
 
 product-add : (f s a b : ℕ) → product f (addIf s a b) ≡ addIf (product f s) (product f a) b

@@ -1,3 +1,4 @@
 pub mod ProductLaws
 pub mod FieldLaws
+pub mod LogLaws
 pub mod Examples

@@ -1,9 +1,7 @@
--- Bounds of the field's product, and its run a turn at a time.
-use mathlib.Core.Path.{_≡_, refl, sym, ap}
+-- Bounds of the field's product.
 use mathlib.Core.Bool.{Bool, true, false}
-use Prim.Native.Nat.{ℕ, zero, suc, _-_, _/_, _%_, _<_, _≤_}
-use native.Mathlib.Nat.{not-suc-le-zero, mod-lt, zero-lt-suc}
-use native.Mathlib.Numerals.{sub-one}
+use Prim.Native.Nat.{ℕ, zero, suc, _/_, _%_, _<_}
+use native.Mathlib.Nat.{mod-lt, zero-lt-suc}
 use lib.Dec.{ltb, ltb→lt, lit<}
 use lib.Bits.{xor-lt}
 use Rattle.bits.specs.Pick.{pick}
@@ -23,17 +21,6 @@ pick-lt false h k = k
 pub add-if-lt : (s a b : ℕ) → s < 64 → a < 64 → addIf s a b < 64
 unfolding addIf
 add-if-lt s a b h k = pick-lt (ltb 0 (b % 2)) (xor-lt 6 s a h k) h
-
--- one digit more, and none left
-pub run-step : (n s a b : ℕ) → 0 < n → productRun n s a b ≡ productRun (n - 1) (addIf s a b) (twiceOf a) (b / 2)
-unfolding productRun
-run-step zero s a b h = absurd (not-suc-le-zero h)
-run-step (suc n) s a b h = ap (λ (m : ℕ). productRun m (addIf s a b) (twiceOf a) (b / 2)) (sym (sub-one (suc n)))
-
-pub run-end : (n s a b : ℕ) → n ≤ 0 → s ≡ productRun n s a b
-unfolding productRun
-run-end zero s a b h = refl
-run-end (suc n) s a b h = absurd (not-suc-le-zero h)
 
 pub run-lt : (n s a b : ℕ) → s < 64 → a < 64 → productRun n s a b < 64
 unfolding productRun

@@ -1,8 +1,7 @@
 // The parity check of a frame (01, Parity and check bits): 81 groups of four symbols.
 ghost use mathlib.Core.Path.{_≡_};
-ghost use mathlib.Core.List.{[]};
 ghost use Prim.Native.Nat.{_<_};
-ghost use lib.ListN.{getD};
+ghost use Rattle.field64.specs.Logarithms.{logs, powers};
 ghost use Rattle.parity.specs.Parity.{symbolOf, rowSum, groupFails, parityOk, failedGroups};
 ghost use Rattle.parity.specs.Tables.{positions, factors};
 
@@ -176,20 +175,18 @@ const FACTORS: [[u8; 4]; 81] = [
     [22, 15, 12, 33],
 ];
 
-// The positions of group g.
-fn positions_of(g: usize) -> [u8; 4]
-    requires { ⌜ g < 81 ⌝ }
-    ensures { λ r. ⌜ r ≡ getD positions g [] ⌝ }
+// The positions of every group, to be lent to the walk.
+fn position_table() -> [[u8; 4]; 81]
+    ensures { λ r. ⌜ r ≡ positions ⌝ }
 {
-    POSITIONS[g]
+    POSITIONS
 }
 
-// The factors of group g.
-fn factors_of(g: usize) -> [u8; 4]
-    requires { ⌜ g < 81 ⌝ }
-    ensures { λ r. ⌜ r ≡ getD factors g [] ⌝ }
+// The factors of every group, to be lent to the walk.
+fn factor_table() -> [[u8; 4]; 81]
+    ensures { λ r. ⌜ r ≡ factors ⌝ }
 {
-    FACTORS[g]
+    FACTORS
 }
 
 // Symbol k of the frame's coded part.
@@ -200,33 +197,45 @@ fn symbol(frame: &[u8], k: u8) -> u8
 }
 
 // The sum of factor times symbol at the position, over a group.
-fn row(frame: &[u8], p: [u8; 4], f: [u8; 4]) -> u8
+fn row(log: &[u8; 64], exp: &[u8; 63], frame: &[u8], p: [u8; 4], f: [u8; 4]) -> u8
+    requires { ⌜ (now log ≡ logs) × (now exp ≡ powers) ⌝ }
     ensures { λ r. ⌜ r ≡ rowSum (now (frame .entry)) p f ⌝ }
 {
     let mut s: u8 = 0;
     let mut k: usize = 0;
     while k < 4 {
-        s = s ^ field64::mul(f[k], symbol(frame, p[k]));
+        s = s ^ field64::mul_by(log, exp, f[k], symbol(frame, p[k]));
         k += 1;
     }
     s
 }
 
 // Group g fails: its sum is not zero.
-fn fails(frame: &[u8], g: usize) -> bool
-    requires { ⌜ g < 81 ⌝ }
+fn fails(
+    log: &[u8; 64],
+    exp: &[u8; 63],
+    position: &[[u8; 4]; 81],
+    factor: &[[u8; 4]; 81],
+    frame: &[u8],
+    g: usize,
+) -> bool
+    requires { ⌜ (g < 81) × (now log ≡ logs) × (now exp ≡ powers) × (now position ≡ positions) × (now factor ≡ factors) ⌝ }
     ensures { λ r. ⌜ r ≡ groupFails (now (frame .entry)) g ⌝ }
 {
-    row(frame, positions_of(g), factors_of(g)) != 0
+    row(log, exp, frame, position[g], factor[g]) != 0
 }
 
 // The sum of every group is zero.
 pub fn parity_ok(frame: &[u8]) -> bool
     ensures { λ r. ⌜ r ≡ parityOk (now (frame .entry)) ⌝ }
 {
+    let log = field64::log_table();
+    let exp = field64::power_table();
+    let position = position_table();
+    let factor = factor_table();
     let mut g: usize = 0;
     while g < 81 {
-        if fails(frame, g) {
+        if fails(&log, &exp, &position, &factor, frame, g) {
             return false;
         }
         g += 1;
@@ -244,11 +253,15 @@ pub struct Groups {
 pub fn failed_groups(frame: &[u8]) -> Groups
     ensures { λ r. ⌜ r ≡ failedGroups (now (frame .entry)) ⌝ }
 {
+    let log = field64::log_table();
+    let exp = field64::power_table();
+    let position = position_table();
+    let factor = factor_table();
     let mut first: u8 = 0;
     let mut failing: u8 = 0;
     let mut g: u8 = 81;
     while 0 < g {
-        if fails(frame, (g as usize) - 1) {
+        if fails(&log, &exp, &position, &factor, frame, (g as usize) - 1) {
             first = g;
             failing += 1;
         }

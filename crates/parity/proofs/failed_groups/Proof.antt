@@ -8,11 +8,23 @@ use Rattle.parity.proofs.failed_groups.Statement.{statement}
 use Rattle.parity.proofs.failed_groups.Tie as tie
 
 abbrev Inv-loop : tie.InvT-loop
-Inv-loop frame first₀ failing₀ g₀ first failing g =
+Inv-loop frame log exp position factor first₀ failing₀ g₀ first failing g =
     (g ≤ 81) × (failing + g ≤ 81) × (first ≡ firstFrom frame g (81 - g)) × (failing ≡ failingFrom frame g (81 - g))
 
 abbrev μ-loop : tie.MeasureT-loop
-μ-loop frame first₀ failing₀ g₀ first failing g = g
+μ-loop frame log exp position factor first₀ failing₀ g₀ first failing g = g
+
+log-table-requires : tie.Need-log-table-requires Inv-loop μ-loop
+log-table-requires c κs = search needs
+
+power-table-requires : tie.Need-power-table-requires Inv-loop μ-loop
+power-table-requires c κs = search needs
+
+position-table-requires : tie.Need-position-table-requires Inv-loop μ-loop
+position-table-requires c κs = search needs
+
+factor-table-requires : tie.Need-factor-table-requires Inv-loop μ-loop
+factor-table-requires c κs = search needs
 
 loop-holds : tie.Need-loop-holds Inv-loop μ-loop
 unfolding firstFrom failingFrom
@@ -38,7 +50,7 @@ loop-less c = search needs
 
 loop-again : tie.Need-loop-again Inv-loop μ-loop
 loop-again c =
-    let l = c .before .before .before .loop in
+    let l = c .before .before .before .before .before .before .before .loop in
     let f = sym (c .before .fails .ensures) in
     ⊎-elim
     (λ w.
@@ -62,6 +74,10 @@ failed-groups-spec =
     (tie.spec
     Inv-loop
     μ-loop
+    log-table-requires
+    power-table-requires
+    position-table-requires
+    factor-table-requires
     loop-holds
     cast-fails
     sub-fails

@@ -4,18 +4,28 @@ use Rattle.parity.specs.Parity.{groupFails}
 use Rattle.parity.proofs.fails.Statement.{statement}
 use Rattle.parity.proofs.fails.Tie as tie
 
-positions-of-requires : tie.Need-positions-of-requires
-positions-of-requires c κs = search needs
+mul-row : tie.Need-mul-row
+mul-row c = search needs
 
-factors-of-requires : tie.Need-factors-of-requires
-factors-of-requires c κs = search needs
+element-copy-out-row : tie.Need-element-copy-out-row
+element-copy-out-row c = search needs
+
+mul-row-2 : tie.Need-mul-row-2
+mul-row-2 c = search needs
+
+element-copy-out-row-2 : tie.Need-element-copy-out-row-2
+element-copy-out-row-2 c = search needs
 
 row-requires : tie.Need-row-requires
 row-requires c κs = search needs
 
 returns : tie.Need-returns
 unfolding groupFails
-returns c = rw (c .row .ensures, c .before .before .positions-of .ensures, c .before .factors-of .ensures) refl
+returns c =
+    let t = c .before .before .before .before .pre in
+    rw (c .row .ensures, t .3, t .4) refl
 
 pub fails-spec : {M : Type 1} → statement M
-fails-spec = tie.close (tie.spec positions-of-requires factors-of-requires row-requires returns)
+fails-spec =
+    tie.close
+    (tie.spec mul-row element-copy-out-row mul-row-2 element-copy-out-row-2 row-requires returns)
