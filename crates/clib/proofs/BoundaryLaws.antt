@@ -26,7 +26,7 @@ use Rattle.ledger.proofs.ReplayLaws.{replayed-all}
 use Rattle.list.specs.Issues.{issuesRefusal}
 use Rattle.list.specs.Rows.{listIn, rowOfSlotAnswer}
 use Rattle.writing.specs.Write.{writeRefusal, written}
-use Rattle.flat.specs.Read.{contentsOf}
+use Rattle.unflat.specs.Read.{contentsOf}
 use Rattle.flat.proofs.FlatLaws.{contents-whole, row-whole}
 use Rattle.clib.specs.Boundary.{sized, isLedger, openAnswer, openRoom, takeRoom, verdictsOf, replayAnswer, replayLedger, replayVerdicts, answerBytes, rowsBytes, rowsAnswer, rowsRoom, rowAnswer, rowRoom, readAnswer, readRoom, frameAnswer, frameRoom, writeAnswer, writeRoom}
 

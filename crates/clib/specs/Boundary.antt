@@ -17,7 +17,7 @@ use Rattle.list.specs.declared.row.Row.{Row}
 use Rattle.list.specs.declared.row.RowAnswer.{RowAnswer}
 use Rattle.list.specs.declared.row.RowAnswer.the-variants.{Found, Refused}
 use Rattle.writing.specs.Write.{writeRefusal, written}
-use Rattle.flat.specs.Read.{contentsOf}
+use Rattle.unflat.specs.Read.{contentsOf}
 use Rattle.flat.specs.Write.{contentsBytes, rowBytes}
 use Rattle.clib.specs.Detail.{detailOf}
 

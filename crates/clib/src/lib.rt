@@ -7,7 +7,6 @@ ghost use Rattle.ledger.specs.Bytes.{takeBytes, frameAt, runBytes, framesOf};
 ghost use Rattle.list.specs.Rows.{foundCount, listIn};
 ghost use Rattle.clib.specs.Detail.{detailOf};
 ghost use Rattle.clib.specs.Boundary.{openAnswer, openRoom, takeAnswer, detailAnswer, takeRoom, frameNumber, verdictsOf, replayAnswer, replayLedger, replayVerdicts, answerBytes, rowsBytes, rowsAnswer, rowsRoom, rowAnswer, rowRoom, readAnswer, readRoom, frameAnswer, frameRoom, writeAnswer, writeRoom};
-use flat::contents_of;
 use flat::put_contents;
 use flat::put_row;
 use frame::read_frame;
@@ -22,6 +21,7 @@ use list::rows::row_of_slot;
 use message::read::Verdict;
 use message::read::number_of;
 use message::read::read;
+use unflat::contents_of;
 use writing::write;
 
 // What a verdict says in one number: its refusal number, then the first failing group and how many fail, or the number of places.

@@ -1,7 +1,7 @@
 use borrow.Author.Needs.{needs}
-use Rattle.flat.specs.Read.{contentsOf}
-use Rattle.flat.proofs.contents_of.Statement.{statement}
-use Rattle.flat.proofs.contents_of.Tie as tie
+use Rattle.unflat.specs.Read.{contentsOf}
+use Rattle.unflat.proofs.contents_of.Statement.{statement}
+use Rattle.unflat.proofs.contents_of.Tie as tie
 
 byte-requires : tie.Need-byte-requires
 byte-requires c κs = search needs

@@ -9,9 +9,9 @@ use lib.ListN.{drop}
 use Rattle.bits.specs.Table.{table}
 use Rattle.bits.proofs.TableLaws.{fill-start, fill-step, fill-done}
 use Rattle.records.specs.Clock.{blankClock}
-use Rattle.flat.specs.Read.{clockNth, clocksAt}
-use Rattle.flat.proofs.read_clocks.Statement.{statement}
-use Rattle.flat.proofs.read_clocks.Tie as tie
+use Rattle.unflat.specs.Read.{clockNth, clocksAt}
+use Rattle.unflat.proofs.read_clocks.Statement.{statement}
+use Rattle.unflat.proofs.read_clocks.Tie as tie
 
 abbrev Inv-loop : tie.InvT-loop
 Inv-loop t out₀ i₀ out i = (i ≤ 23) × (length out₀ ≡ 23) × (out ≡ table (clockNth t) i ++ drop i out₀)

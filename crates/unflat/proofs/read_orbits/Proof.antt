@@ -9,9 +9,9 @@ use lib.ListN.{drop}
 use Rattle.bits.specs.Table.{table}
 use Rattle.bits.proofs.TableLaws.{fill-start, fill-step, fill-done}
 use Rattle.records.specs.Orbit.{blankOrbit}
-use Rattle.flat.specs.Read.{orbitNth, orbitsAt}
-use Rattle.flat.proofs.read_orbits.Statement.{statement}
-use Rattle.flat.proofs.read_orbits.Tie as tie
+use Rattle.unflat.specs.Read.{orbitNth, orbitsAt}
+use Rattle.unflat.proofs.read_orbits.Statement.{statement}
+use Rattle.unflat.proofs.read_orbits.Tie as tie
 
 abbrev Inv-loop : tie.InvT-loop
 Inv-loop t out₀ i₀ out i = (i ≤ 6) × (length out₀ ≡ 6) × (out ≡ table (orbitNth t) i ++ drop i out₀)

@@ -7,8 +7,8 @@ use lib.IntN.{negsuc}
 use mir.Syntax.{w16}
 use mir.Facts.{toZ-pos, toZ-ofZ}
 use Rattle.records.proofs.SignedLaws.{neg-sub}
-use Rattle.flat.proofs.signed16.Statement.{statement}
-use Rattle.flat.proofs.signed16.Tie as tie
+use Rattle.unflat.proofs.signed16.Statement.{statement}
+use Rattle.unflat.proofs.signed16.Tie as tie
 
 cast-result : tie.Need-cast-result
 cast-result c = search needs

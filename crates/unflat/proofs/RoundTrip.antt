@@ -22,10 +22,10 @@ use Rattle.records.specs.declared.orbit.Orbit.{Orbit}
 use Rattle.records.specs.declared.clock.Clock.{Clock}
 use Rattle.contents.specs.declared.parts.Contents.{Contents}
 use Rattle.form.specs.Form.{kindOf, quartersIn, heldUra}
-use Rattle.flat.specs.Read.{flagAt, flagsAt, clockNth, clocksAt, orbitNth, orbitsAt, maskIn, clocksIn, orbitsIn, contentsOf}
+use Rattle.unflat.specs.Read.{flagAt, flagsAt, clockNth, clocksAt, orbitNth, orbitsAt, maskIn, clocksIn, orbitsIn, contentsOf}
 use Rattle.flat.specs.Write.{word, flagsOf, clockRow, orbitRow, rowsTo, maskHead, clockHead, orbitHead, maskBytes, clocksBytes, orbitsBytes, contentsBytes}
 use Rattle.flat.proofs.StoreLaws.{length-rows}
 use Rattle.flat.proofs.FlatLaws.{mask-long, clocks-long}
 
 -- the byte after m others
 right : (xs ys : List ℕ) (m n at : ℕ) → length xs ≡ m → at ≡ m + n → getD (xs ++ ys) at 0 ≡ getD ys n 0

@@ -2,8 +2,8 @@
 use borrow.Author.Needs.{needs}
 use mathlib.Core.Path.{sym}
 use lib.ListN.{List·getD-eq-default}
-use Rattle.flat.proofs.byte.Statement.{statement}
-use Rattle.flat.proofs.byte.Tie as tie
+use Rattle.unflat.proofs.byte.Statement.{statement}
+use Rattle.unflat.proofs.byte.Tie as tie
 
 shared-slice-read-result : tie.Need-shared-slice-read-result
 shared-slice-read-result c = search needs

@@ -1,7 +1,7 @@
 -- The two kinds in the order of the tests, and all others.
 use borrow.Author.Tests.{eq-eqb, ne-eqb}
-use Rattle.flat.proofs.held_ura.Statement.{statement}
-use Rattle.flat.proofs.held_ura.Tie as tie
+use Rattle.unflat.proofs.held_ura.Statement.{statement}
+use Rattle.unflat.proofs.held_ura.Tie as tie
 
 returns : tie.Need-returns
 returns c = rw (eq-eqb _ _ (c .if1 .taken))

@@ -1,7 +1,7 @@
 use borrow.Author.Needs.{needs}
-use Rattle.flat.specs.Read.{orbitsIn}
-use Rattle.flat.proofs.read_orbit_part.Statement.{statement}
-use Rattle.flat.proofs.read_orbit_part.Tie as tie
+use Rattle.unflat.specs.Read.{orbitsIn}
+use Rattle.unflat.proofs.read_orbit_part.Statement.{statement}
+use Rattle.unflat.proofs.read_orbit_part.Tie as tie
 
 four-requires : tie.Need-four-requires
 four-requires c κs = search needs

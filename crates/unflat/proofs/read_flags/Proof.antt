@@ -10,9 +10,9 @@ use Rattle.bits.specs.Table.{table}
 use Rattle.bits.proofs.TableLaws.{fill-start, fill-step, fill-done}
 use mathlib.Core.Bool.{false}
 use lib.Dec.{eqb}
-use Rattle.flat.specs.Read.{flagAt, flagsAt}
-use Rattle.flat.proofs.read_flags.Statement.{statement}
-use Rattle.flat.proofs.read_flags.Tie as tie
+use Rattle.unflat.specs.Read.{flagAt, flagsAt}
+use Rattle.unflat.proofs.read_flags.Statement.{statement}
+use Rattle.unflat.proofs.read_flags.Tie as tie
 
 abbrev Inv-loop : tie.InvT-loop
 Inv-loop t out₀ i₀ out i = (i ≤ 255) × (length out₀ ≡ 255) × (out ≡ table (flagAt t) i ++ drop i out₀)
