@@ -1,62 +1,78 @@
-use mathlib.Core.Path.{_≡_, refl, _∙_}
-use Prim.Native.Nat.{_+_, _^_, _<_}
-use borrow.Author.Needs.{needs}
-use Rattle.bits.specs.Bits.{bitsFrom}
-use Rattle.bits.proofs.FieldLaws.{bit-lt}
+use native.Mathlib.Omega.{arith}
+use Prim.Native.Nat.{_+_, _-_, _*_, _/_, _%_}
+use lib.Dec.{lit<}
 use Rattle.check24.specs.Check.{checkBits, checkOf}
-use Rattle.check24.proofs.CheckLaws.{feed-lt, check-step, check-end}
+use Rattle.check24.proofs.EightLaws.{checks-lt, three-parts}
+use borrow.Author.Needs.{needs}
 use Rattle.check24.proofs.check.Statement.{statement}
 use Rattle.check24.proofs.check.Tie as tie
 
--- the register and the bits that are left make the check
-abbrev Inv-loop : tie.InvT-loop
-Inv-loop s at n r₀ i₀ left₀ r i left =
-    (r < 2 ^ 24) × (checkBits r (bitsFrom s i left) ≡ checkOf s at n) × (i + left ≡ at + n)
+feed-bits-requires : tie.Need-feed-bits-requires
+feed-bits-requires c κs = search needs
 
-abbrev μ-loop : tie.MeasureT-loop
-μ-loop s at n r₀ i₀ left₀ r i left = left
+returns : tie.Need-returns
+unfolding checkOf checkBits
+returns c = c .feed-bits .ensures
 
-loop-holds : tie.Need-loop-holds Inv-loop μ-loop
-unfolding checkOf
-loop-holds c = (search needs, refl, refl)
+sub-lead : tie.Need-sub-lead
+sub-lead c = search needs
 
-bit-requires : tie.Need-bit-requires Inv-loop μ-loop
-bit-requires c κs = search needs
+sub-whole : tie.Need-sub-whole
+sub-whole c = search needs
 
-feed-requires : tie.Need-feed-requires Inv-loop μ-loop
-feed-requires c κs = (search needs, rw (c .bit .ensures) (bit-lt _ _))
+cast-start : tie.Need-cast-start
+cast-start c = search needs
 
-add-i : tie.Need-add-i Inv-loop μ-loop
-add-i c = search needs
+add-start : tie.Need-add-start
+add-start c = search needs
 
-sub-left : tie.Need-sub-left Inv-loop μ-loop
-sub-left c = search needs
+cast-end : tie.Need-cast-end
+cast-end c = search needs
 
-loop-less : tie.Need-loop-less Inv-loop μ-loop
-loop-less c = search needs
+mul-end : tie.Need-mul-end
+mul-end c = search needs
 
-loop-again : tie.Need-loop-again Inv-loop μ-loop
-loop-again c =
-    let l = c .before .before .before .loop in (
-      rw (c .feed .ensures, c .before .bit .ensures) (feed-lt (l .r) _ (l .inv .0) (bit-lt _ (l .i))),
-      rw (c .feed .ensures, c .before .bit .ensures) (check-step _ (l .i) (l .left) (l .r) (search needs) ∙ l .inv .1),
-      search needs,
-    )
+add-end : tie.Need-add-end
+add-end c = search needs
 
-returns : tie.Need-returns Inv-loop μ-loop
-returns c = check-end _ _ _ _ (c .loop-test .left) ∙ c .before .loop .inv .1
+feed-bits-requires-2 : tie.Need-feed-bits-requires-2
+feed-bits-requires-2 c κs = search needs
+
+feed-bytes-requires : tie.Need-feed-bytes-requires
+feed-bytes-requires c κs = (rw (c .feed-bits2 .ensures) (checks-lt _ 0 _ _ (lit< tt)), omega arith)
+
+sub-feed-bits : tie.Need-sub-feed-bits
+sub-feed-bits c = search needs
+
+feed-bits-requires-3 : tie.Need-feed-bits-requires-3
+feed-bits-requires-3 c κs = (
+  rw (c .feed-bytes .ensures, c .before .feed-bits2 .ensures) (checks-lt _ _ _ _ (checks-lt _ 0 _ _ (lit< tt))),
+  omega arith,
+)
+
+returns-2 : tie.Need-returns-2
+returns-2 c =
+    let b = c .before in
+    let a = b .before .before .before .before .args in
+    let lead = (8 - a .at % 8) % 8 in
+    rw (c .feed-bits3 .ensures, b .feed-bytes .ensures, b .before .feed-bits2 .ensures)
+    (three-parts (a .s .now) (a .at) (a .n) lead ((a .n - lead) / 8) ((a .n - lead) % 8) ((a .at + lead) / 8) (omega arith) (omega arith))
 
 pub check-spec : {M : Type 1} → statement M
 check-spec =
     tie.close
     (tie.spec
-    Inv-loop
-    μ-loop
-    loop-holds
-    bit-requires
-    feed-requires
-    add-i
-    sub-left
-    loop-less
-    loop-again
-    returns)
+    feed-bits-requires
+    returns
+    sub-lead
+    sub-whole
+    cast-start
+    add-start
+    cast-end
+    mul-end
+    add-end
+    feed-bits-requires-2
+    feed-bytes-requires
+    sub-feed-bits
+    feed-bits-requires-3
+    returns-2)
