@@ -1,4 +1,5 @@
 pub mod ProductLaws
 pub mod FieldLaws
 pub mod LogLaws
+pub mod PaddedLaws
 pub mod Examples

@@ -43,9 +43,9 @@ test : T (all (λ (n : ℕ). both (powered n) (small n)) 63)
 unfolding powered small power logFrom twiceOf timesX
 test = tt
 
-log-shown : (n : ℕ) → n < 63 → log (n + 1) ≡ logFrom (n + 1) 1 0 63
+log-shown : (a : ℕ) → a < 64 → log a ≡ logFrom a 1 0 63
 unfolding log logs
-log-shown n h = getD-table (λ (k : ℕ). logFrom k 1 0 63) 64 (n + 1) 0 (omega arith)
+log-shown a h = getD-table (λ (k : ℕ). logFrom k 1 0 63) 64 a 0 h
 
 power-lt : (n : ℕ) → power n < 64
 unfolding power
@@ -53,7 +53,7 @@ power-lt zero = lit< tt
 power-lt (suc n) = twice-lt (power n) (power-lt n)
 
 -- the product of two powers is the power at the sum
-power-add : (i j : ℕ) → product (power i) (power j) ≡ power (i + j)
+pub power-add : (i j : ℕ) → product (power i) (power j) ≡ power (i + j)
 unfolding power
 power-add i zero = product-one-right (power i) (power-lt i) ∙ ap power (sym (add-zero i))
 power-add i (suc j) = product-twice (power i) (power j) (power-lt j) ∙ ap twiceOf (power-add i j) ∙ ap power (sym (add-suc i j))
@@ -71,17 +71,21 @@ unfolding again
 power-mod n h = eqb→eq (power (n % 63)) (power n) (below again 125 test-again n h)
 
 -- an element but zero is the power at its logarithm, which is below 63
-power-log : (a : ℕ) → a < 64 → (a ≡ 0 → ⊥) → (power (log a) ≡ a) × (log a < 63)
+pub log-power : (a : ℕ) → a < 64 → (a ≡ 0 → ⊥) → (power (logFrom a 1 0 63) ≡ a) × (logFrom a 1 0 63 < 63)
 unfolding powered small
-power-log a h z =
+log-power a h z =
     let n = a - 1 in
     let e : a ≡ n + 1 = omega arith in
     let l : n < 63 = omega arith in
     let t = below (λ (k : ℕ). both (powered k) (small k)) 63 test n l in
-    rw (e, log-shown n l) (
+    rw e (
       eqb→eq (power (logFrom (n + 1) 1 0 63)) (n + 1) (both-left (powered n) (small n) t),
       ltb→lt (logFrom (n + 1) 1 0 63) 63 (both-right (powered n) (small n) t),
     )
+
+-- the same by the table
+power-log : (a : ℕ) → a < 64 → (a ≡ 0 → ⊥) → (power (log a) ≡ a) × (log a < 63)
+power-log a h z = rw (log-shown a h) (log-power a h z)
 
 by-powers : (a b : ℕ) → a < 64 → b < 64 → (a ≡ 0 → ⊥) → (b ≡ 0 → ⊥) → getD powers ((log a + log b) % 63) 0 ≡ product a b
 unfolding powers

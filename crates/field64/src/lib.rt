@@ -4,6 +4,8 @@ ghost use Prim.Native.Nat.{_<_};
 ghost use Rattle.field64.specs.Field.{product};
 ghost use Rattle.field64.specs.Logarithms.{logs, powers, productBy};
 
+pub mod padded;
+
 // 02, CR 5: the exponent of each element; zero has none, its entry is 0.
 const LOG: [u8; 64] = [
     0,

@@ -1,2 +1,3 @@
 pub mod ParityLaws
 pub mod GroupLaws
+pub mod UnpackedLaws

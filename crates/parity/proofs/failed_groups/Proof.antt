@@ -3,28 +3,33 @@ use mathlib.Core.Logic.{⊎-elim}
 use Prim.Native.Nat.{_+_, _-_, _≤_}
 use borrow.Author.Needs.{needs}
 use Rattle.parity.specs.Parity.{firstFrom, failingFrom, failedGroups}
+use Rattle.parity.specs.Unpacked.{failsBy}
+use Rattle.parity.proofs.UnpackedLaws.{fails-by}
 use Rattle.parity.proofs.ParityLaws.{down-fails, down-passes}
 use Rattle.parity.proofs.failed_groups.Statement.{statement}
 use Rattle.parity.proofs.failed_groups.Tie as tie
 
 abbrev Inv-loop : tie.InvT-loop
-Inv-loop frame log exp position factor first₀ failing₀ g₀ first failing g =
+Inv-loop frame log exp position factor ls first₀ failing₀ g₀ first failing g =
     (g ≤ 81) × (failing + g ≤ 81) × (first ≡ firstFrom frame g (81 - g)) × (failing ≡ failingFrom frame g (81 - g))
 
 abbrev μ-loop : tie.MeasureT-loop
-μ-loop frame log exp position factor first₀ failing₀ g₀ first failing g = g
+μ-loop frame log exp position factor ls first₀ failing₀ g₀ first failing g = g
 
-log-table-requires : tie.Need-log-table-requires Inv-loop μ-loop
-log-table-requires c κs = search needs
+padded-logs-requires : tie.Need-padded-logs-requires Inv-loop μ-loop
+padded-logs-requires c κs = search needs
 
-power-table-requires : tie.Need-power-table-requires Inv-loop μ-loop
-power-table-requires c κs = search needs
+padded-powers-requires : tie.Need-padded-powers-requires Inv-loop μ-loop
+padded-powers-requires c κs = search needs
 
 position-table-requires : tie.Need-position-table-requires Inv-loop μ-loop
 position-table-requires c κs = search needs
 
 factor-table-requires : tie.Need-factor-table-requires Inv-loop μ-loop
 factor-table-requires c κs = search needs
+
+symbol-logs-requires : tie.Need-symbol-logs-requires Inv-loop μ-loop
+symbol-logs-requires c κs = search needs
 
 loop-holds : tie.Need-loop-holds Inv-loop μ-loop
 unfolding firstFrom failingFrom
@@ -50,8 +55,9 @@ loop-less c = search needs
 
 loop-again : tie.Need-loop-again Inv-loop μ-loop
 loop-again c =
-    let l = c .before .before .before .before .before .before .before .loop in
-    let f = sym (c .before .fails .ensures) in
+    let b = c .before .before .before .before .before .before .before .before in
+    let l = b .loop in
+    let f = sym (c .before .fails .ensures ∙ ap (λ ls. failsBy ls (l .g - 1)) (b .before .symbol-logs .ensures) ∙ fails-by _ (l .g - 1) (search needs)) in
     ⊎-elim
     (λ w.
     let d = down-fails _ (l .g) 81 (search needs) (l .inv .0) (f ∙ w .0 .taken) in
@@ -74,10 +80,11 @@ failed-groups-spec =
     (tie.spec
     Inv-loop
     μ-loop
-    log-table-requires
-    power-table-requires
+    padded-logs-requires
+    padded-powers-requires
     position-table-requires
     factor-table-requires
+    symbol-logs-requires
     loop-holds
     cast-fails
     sub-fails

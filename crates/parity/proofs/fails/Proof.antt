@@ -1,6 +1,6 @@
 use mathlib.Core.Path.{refl}
 use borrow.Author.Needs.{needs}
-use Rattle.parity.specs.Parity.{groupFails}
+use Rattle.parity.specs.Unpacked.{failsBy}
 use Rattle.parity.proofs.fails.Statement.{statement}
 use Rattle.parity.proofs.fails.Tie as tie
 
@@ -20,10 +20,10 @@ row-requires : tie.Need-row-requires
 row-requires c κs = search needs
 
 returns : tie.Need-returns
-unfolding groupFails
+unfolding failsBy
 returns c =
-    let t = c .before .before .before .before .pre in
-    rw (c .row .ensures, t .3, t .4) refl
+    let t = c .before .before .before .pre in
+    rw (c .row .ensures, t .1, t .2, t .3, t .4) refl
 
 pub fails-spec : {M : Type 1} → statement M
 fails-spec =

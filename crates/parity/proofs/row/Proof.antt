@@ -3,33 +3,29 @@ use Prim.Native.Nat.{_-_}
 use borrow.Author.Needs.{needs}
 use lib.ListN.{length, drop}
 use lib.Bits.{bitXor}
-use Rattle.field64.proofs.LogLaws.{product-by}
-use Rattle.parity.specs.Parity.{rowSum}
-use Rattle.parity.proofs.ParityLaws.{row-step, row-end}
+use Rattle.parity.specs.Unpacked.{rowBy}
+use Rattle.parity.proofs.UnpackedLaws.{row-by-step, row-by-end}
 use Rattle.parity.proofs.row.Statement.{statement}
 use Rattle.parity.proofs.row.Tie as tie
 
 abbrev Inv-loop : tie.InvT-loop
-Inv-loop log exp frame p f s₀ k₀ s k =
-    (bitXor s (rowSum frame (drop k p) (drop k f)) ≡ rowSum frame p f) × (length p ≡ 4) × (length f ≡ 4)
+Inv-loop log exp ls p f s₀ k₀ s k =
+    (bitXor s (rowBy log exp ls (drop k p) (drop k f)) ≡ rowBy log exp ls p f) × (length p ≡ 4) × (length f ≡ 4)
 
 abbrev μ-loop : tie.MeasureT-loop
-μ-loop log exp frame p f s₀ k₀ s k = 4 - k
+μ-loop log exp ls p f s₀ k₀ s k = 4 - k
 
 loop-holds : tie.Need-loop-holds Inv-loop μ-loop
 loop-holds c = (refl, search needs, search needs)
 
-array-read-mul-by : tie.Need-array-read-mul-by Inv-loop μ-loop
-array-read-mul-by c = search needs
+array-read-term : tie.Need-array-read-term Inv-loop μ-loop
+array-read-term c = search needs
 
-array-read-symbol : tie.Need-array-read-symbol Inv-loop μ-loop
-array-read-symbol c = search needs
+array-read-term-2 : tie.Need-array-read-term-2 Inv-loop μ-loop
+array-read-term-2 c = search needs
 
-symbol-requires : tie.Need-symbol-requires Inv-loop μ-loop
-symbol-requires c κs = search needs
-
-mul-by-requires : tie.Need-mul-by-requires Inv-loop μ-loop
-mul-by-requires c κs = search needs
+term-requires : tie.Need-term-requires Inv-loop μ-loop
+term-requires c κs = search needs
 
 add-k : tie.Need-add-k Inv-loop μ-loop
 add-k c = search needs
@@ -39,11 +35,8 @@ loop-less c = search needs
 
 loop-again : tie.Need-loop-again Inv-loop μ-loop
 loop-again c =
-    let b = c .before .before .before in
-    let l = b .loop in
-    let t = b .before .before .pre in (
-      rw (c .mul-by .ensures, t .0, t .1, product-by, c .before .symbol .ensures)
-          (row-step _ _ _ (l .s) (l .k) (search needs) (search needs) ∙ l .inv .0),
+    let l = c .before .before .loop in (
+      rw (c .term .ensures) (row-by-step _ _ _ _ _ (l .s) (l .k) (search needs) (search needs) ∙ l .inv .0),
       l .inv .1,
       l .inv .2,
     )
@@ -51,7 +44,7 @@ loop-again c =
 returns : tie.Need-returns Inv-loop μ-loop
 returns c =
     let l = c .before .loop in
-    row-end _ _ _ (l .s) (l .k) (search needs) ∙ l .inv .0
+    row-by-end _ _ _ _ _ (l .s) (l .k) (search needs) ∙ l .inv .0
 
 pub row-spec : {M : Type 1} → statement M
 row-spec =
@@ -60,10 +53,9 @@ row-spec =
     Inv-loop
     μ-loop
     loop-holds
-    array-read-mul-by
-    array-read-symbol
-    symbol-requires
-    mul-by-requires
+    array-read-term
+    array-read-term-2
+    term-requires
     add-k
     loop-less
     loop-again
