@@ -19,7 +19,6 @@ use message::read::number_of;
 use message::read::verdict_of;
 use records::clock::Clock;
 use records::orbit::Orbit;
-use records::slots::Place;
 
 // The PRN that the ledger is for.
 fn ledger_prn(t: &[u8]) -> u8
@@ -151,11 +150,15 @@ fn clocks_by_place(t: &mut [u8], kind: u8, p: ClockPart)
     let ks = p.clocks;
     let first = first_place(kind, p) as u16;
     let count = p.count as usize;
+    let mut from: u8 = 0;
+    let mut n = first;
     let mut j: usize = 0;
     while (j < 23) & (j < count) {
-        let slot = mask::nth_set(t, Place(first + j as u16));
+        let slot = mask::nth_after(t, from, n).0;
         let h = held_clock(true, p.epoch, p.ssr, ks[j]);
-        form::put_clock(t, slot.0 as u16, h);
+        form::put_clock(t, slot as u16, h);
+        from = mask::resumed(from, n, slot);
+        n = 1;
         j += 1;
     }
 }

@@ -1,2 +1,3 @@
 pub mod CaseLaws
 pub mod MaskLaws
+pub mod PlaceLaws

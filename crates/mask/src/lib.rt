@@ -1,7 +1,10 @@
 // The mask that a ledger keeps, as lent bytes: docs/FORM.md. Any bytes are such a form; bytes past the end are 0.
 ghost use mathlib.Core.Path.{_≡_};
-ghost use lib.ListN.{getD};
-ghost use Rattle.records.specs.Slots.{setCount, nthSet};
+ghost use Prim.Native.Nat.{_+_, _≤_};
+ghost use lib.Dec.{eqb};
+ghost use lib.ListN.{getD, length, drop};
+ghost use Rattle.bits.specs.Pick.{pick};
+ghost use Rattle.records.specs.Slots.{setCount, nthFrom, nthSet};
 ghost use Rattle.mask.specs.Mask.{bitsAt, bitAtSlot, maskAt, heldMask, sameBits, sameMask, flagsOf, putMask};
 use contents::parts::MaskPart;
 use records::slots::Place;
@@ -46,8 +49,8 @@ pub fn has_bit(t: &[u8], slot: Slot) -> bool
     byte(t, 3 + s as usize) == 1
 }
 
-// How many bits of the mask are set.
-pub fn set_count(t: &[u8]) -> u16
+// How many bits of the mask are set, where bytes may be missing.
+fn count_some(t: &[u8]) -> u16
     ensures { λ r. ⌜ r ≡ setCount (maskAt (now (t .entry)) .bits) ⌝ }
 {
     let mut n: u16 = 0;
@@ -61,12 +64,39 @@ pub fn set_count(t: &[u8]) -> u16
     n
 }
 
-// The slot of a place: that of the n-th set bit, counting from 1. Slot 0 where no satellite has the place.
-pub fn nth_set(t: &[u8], place: Place) -> Slot
-    ensures { λ r. ⌜ r .0 ≡ nthSet (maskAt (now (t .entry)) .bits) (place .0) ⌝ }
+// How many bits of the mask are set, where no byte is missing: with no test in the loop it goes many bytes at once.
+fn count_all(t: &[u8]) -> u16
+    requires { ⌜ 259 ≤ length (now t) ⌝ }
+    ensures { λ r. ⌜ r ≡ setCount (maskAt (now (t .entry)) .bits) ⌝ }
 {
-    let mut left = place.0;
-    let mut i: usize = 0;
+    let mut n: u16 = 0;
+    let mut i: usize = 255;
+    while 0 < i {
+        i -= 1;
+        if t[4 + i] == 1 {
+            n += 1;
+        }
+    }
+    n
+}
+
+// How many bits of the mask are set.
+pub fn set_count(t: &[u8]) -> u16
+    ensures { λ r. ⌜ r ≡ setCount (maskAt (now (t .entry)) .bits) ⌝ }
+{
+    if t.len() < 259 {
+        count_some(t)
+    } else {
+        count_all(t)
+    }
+}
+
+// The slot of the n-th set bit after slot `from`, counting from 1. Slot 0 where there is none.
+pub fn nth_after(t: &[u8], from: u8, n: u16) -> Slot
+    ensures { λ r. ⌜ r .0 ≡ nthFrom (drop from (maskAt (now (t .entry)) .bits)) (from + 1) n ⌝ }
+{
+    let mut left = n;
+    let mut i = from as usize;
     while i < 255 {
         if byte(t, 4 + i) == 1 {
             if left == 1 {
@@ -79,6 +109,23 @@ pub fn nth_set(t: &[u8], place: Place) -> Slot
         i += 1;
     }
     Slot(0)
+}
+
+// The slot of a place: that of the n-th set bit, counting from 1. Slot 0 where no satellite has the place.
+pub fn nth_set(t: &[u8], place: Place) -> Slot
+    ensures { λ r. ⌜ r .0 ≡ nthSet (maskAt (now (t .entry)) .bits) (place .0) ⌝ }
+{
+    nth_after(t, 0, place.0)
+}
+
+// Where a walk over the places goes on after place n, counted from slot `from`, was found to have this slot.
+pub fn resumed(from: u8, n: u16, slot: u8) -> u8
+    ensures { λ r. ⌜ r ≡ pick (eqb n 0) from (pick (eqb slot 0) 255 slot) ⌝ }
+{
+    if n == 0 {
+        return from;
+    }
+    if slot == 0 { 255 } else { slot }
 }
 
 // Whether the bits held are these.

@@ -10,6 +10,9 @@ use lib.ListN.{length, take, drop, length-take}
 use lib.Seq.{getD-take}
 use Rattle.records.specs.Clock.{blankClock}
 use Rattle.form.specs.Form.{clockBytes, putClocks}
+use Rattle.records.specs.Slots.{nthFrom, nthSet}
+use Rattle.mask.proofs.PlaceLaws.{walk-on}
+use Rattle.mask.proofs.MaskLaws.{length-bits}
 use Rattle.mask.specs.Mask.{bitsAt, maskAt}
 use Rattle.ledger.specs.Keeps.{heldClock, byPlace}
 use Rattle.ledger.proofs.KeepLaws.{length-mapped, turn, stop, place-step, place-end, clocks-placed, placed-not-7}
@@ -18,15 +21,16 @@ use Rattle.ledger.proofs.take.clocks_by_place.Statement.{statement}
 use Rattle.ledger.proofs.take.clocks_by_place.Tie as tie
 
 abbrev Inv-loop : tie.InvT-loop
-Inv-loop t₀ kind p ks first count j₀ t j =
+Inv-loop t₀ kind p ks first count from₀ n₀ j₀ t from n j =
     (j ≤ 23)
     × (length (p .clocks) ≡ 23)
     × (length t ≡ length t₀)
     × (bitsAt t ≡ bitsAt t₀)
     × (putClocks t (byPlace (heldClock true (p .epoch) (p .ssr)) (bitsAt t₀) (drop j (take (p .count) (p .clocks))) (first + j)) ≡ putClocks t₀ (byPlace (heldClock true (p .epoch) (p .ssr)) (bitsAt t₀) (take (p .count) (p .clocks)) first))
+    × ((k : ℕ) → nthFrom (drop from (bitsAt t₀)) (from + 1) (n + k) ≡ nthSet (bitsAt t₀) (first + j + k))
 
 abbrev μ-loop : tie.MeasureT-loop
-μ-loop t₀ kind p ks first count j₀ t j = 23 - j
+μ-loop t₀ kind p ks first count from₀ n₀ j₀ t from n j = 23 - j
 
 first-place-requires : tie.Need-first-place-requires Inv-loop μ-loop
 first-place-requires c κs = search needs
@@ -42,16 +46,10 @@ loop-holds c =
     let a = c .before .before .before .before .args in
     let p = a .p in
     let first = c .before .first-place .result in
-    (omega arith, search (needs, length-mapped), refl, refl, ap (λ (n : ℕ). putClocks (a .t .now) (byPlace (heldClock true (p .epoch) (p .ssr)) (bitsAt (a .t .now)) (take (p .count) (p .clocks)) n)) (add-zero first))
+    (omega arith, search (needs, length-mapped), refl, refl, ap (λ (n : ℕ). putClocks (a .t .now) (byPlace (heldClock true (p .epoch) (p .ssr)) (bitsAt (a .t .now)) (take (p .count) (p .clocks)) n)) (add-zero first), λ k. ap (λ (n : ℕ). nthSet (bitsAt (a .t .now)) (n + k)) (sym (add-zero first)))
 
-cast-t16 : tie.Need-cast-t16 Inv-loop μ-loop
-cast-t16 c = search needs
-
-add-t17 : tie.Need-add-t17 Inv-loop μ-loop
-add-t17 c = search needs
-
-nth-set-requires : tie.Need-nth-set-requires Inv-loop μ-loop
-nth-set-requires c κs = search needs
+nth-after-requires : tie.Need-nth-after-requires Inv-loop μ-loop
+nth-after-requires c κs = search needs
 
 mul-held-clock : tie.Need-mul-held-clock Inv-loop μ-loop
 mul-held-clock c = search needs
@@ -67,6 +65,9 @@ cast-put-clock c = search needs
 
 put-clock-requires : tie.Need-put-clock-requires Inv-loop μ-loop
 put-clock-requires c κs = search needs
+
+resumed-requires : tie.Need-resumed-requires Inv-loop μ-loop
+resumed-requires c κs = search needs
 
 add-j : tie.Need-add-j Inv-loop μ-loop
 add-j c = search needs
@@ -86,8 +87,10 @@ loop-again c =
     let near = turn (l .j) (p .count) (c2 .before .before .loop-test .taken) in
     let records = take (p .count) (p .clocks) in
     let within : l .j < length records = omega (arith, length-take (p .count) (p .clocks)) in
-    let slot = rw (l .inv .3) at (c2 .nth-set .ensures) in
-    let put = rw (c .before .before .before .before .before .held-clock .ensures, slot) at (c .before .before .put-clock .ensures) in
+    let bits = bitsAt (a .t .now) in
+    let found = rw (l .inv .3) at (c2 .nth-after .ensures) in
+    let slot = found ∙ ap (nthFrom (drop (l .from) bits) (l .from + 1)) (sym (add-zero (l .n))) ∙ l .inv .5 0 ∙ ap (nthSet bits) (add-zero (first + l .j)) in
+    let put = rw (c .before .before .before .before .before .held-clock .ensures, slot) at (c .before .before .before .put-clock .ensures) in
     let next : first + l .j + 1 ≡ first + (l .j + 1) = omega arith in
     let step =
     rw (getD-take (p .count) (p .clocks) (l .j) blankClock (near .1)) at
@@ -95,9 +98,12 @@ loop-again c =
     in (
       omega arith,
       l .inv .1,
-      c .before .before .put-clock .kept .0 ∙ l .inv .2,
-      rw (c .before .before .put-clock .ensures) (clock-bits (l .t) _ _ ∙ l .inv .3),
+      c .before .before .before .put-clock .kept .0 ∙ l .inv .2,
+      rw (c .before .before .before .put-clock .ensures) (clock-bits (l .t) _ _ ∙ l .inv .3),
       rw (put, ← next) (sym step ∙ l .inv .4),
+      λ k.
+          let e : first + l .j + (1 + k) ≡ first + (l .j + 1) + k = omega arith in
+          rw (c .resumed .ensures) (walk-on bits (l .from) (l .n) (1 + k) _ (omega (arith, length-bits (a .t .now))) (omega arith) found) ∙ l .inv .5 (1 + k) ∙ ap (nthSet bits) e,
     )
 
 same-length : tie.Need-same-length Inv-loop μ-loop
@@ -128,14 +134,13 @@ clocks-by-place-spec =
     cast-first
     cast-count
     loop-holds
-    cast-t16
-    add-t17
-    nth-set-requires
+    nth-after-requires
     mul-held-clock
     array-copy-out-held-clock
     held-clock-requires
     cast-put-clock
     put-clock-requires
+    resumed-requires
     add-j
     loop-less
     loop-again
