@@ -9,3 +9,4 @@ pub mod XorLaws
 pub mod Below
 pub mod SomeLaws
 pub mod ByteLaws
+pub mod WindowLaws

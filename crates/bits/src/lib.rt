@@ -2,7 +2,7 @@
 ghost use mathlib.Core.Path.{_≡_};
 ghost use Prim.Native.Nat.{_+_, _-_, _*_, _/_, _%_, _<_, _≤_, _^_, min};
 ghost use lib.ListN.{length, getD};
-ghost use Rattle.bits.specs.Bits.{bitAt, gotAt, setBit, putAt, byteWith, putsAt};
+ghost use Rattle.bits.specs.Bits.{bitAt, fieldAt, gotAt, setBit, putAt, byteWith, putsAt};
 
 // Bit i; 0 past the end.
 pub fn bit(s: &[u8], i: usize) -> u8
@@ -38,7 +38,7 @@ fn least(a: usize, b: usize) -> usize
 }
 
 // The field of n bits from bit at on, a byte a turn; more than 64 bits: 0.
-pub fn get(s: &[u8], at: usize, n: usize) -> u64
+fn by_bytes(s: &[u8], at: usize, n: usize) -> u64
     ensures { λ r. ⌜ r ≡ gotAt 64 (now (s .entry)) at n ⌝ }
 {
     if n > 64 {
@@ -59,6 +59,87 @@ pub fn get(s: &[u8], at: usize, n: usize) -> u64
     x
 }
 
+// A byte as a number of 64 bits.
+fn wide(x: u8) -> u64
+    ensures { λ r. ⌜ (r ≡ x) × (r < 256) ⌝ }
+{
+    x as u64
+}
+
+// Four bytes in a row as one number.
+fn joined(a: u8, b: u8, c: u8, d: u8) -> u64
+    ensures { λ r. ⌜ r ≡ a * 2 ^ 24 + b * 2 ^ 16 + c * 2 ^ 8 + d ⌝ }
+{
+    wide(a) * 0x1000000 + wide(b) * 0x10000 + wide(c) * 0x100 + wide(d)
+}
+
+// The 32 bits from byte j on.
+fn four(s: &[u8], j: usize) -> u64
+    requires { ⌜ (j + 3 < length (now s)) × (j < 2 ^ 62) ⌝ }
+    ensures { λ r. ⌜ r ≡ fieldAt (now (s .entry)) (8 * j) 32 ⌝ }
+{
+    joined(s[j], s[j + 1], s[j + 2], s[j + 3])
+}
+
+// The n bits after the first r of the 64 in w.
+fn part(w: u64, r: usize, n: usize) -> u64
+    requires { ⌜ (0 < n) × (n < 57) × (r < 8) ⌝ }
+    ensures { λ y. ⌜ y ≡ w / 2 ^ (64 - r - n) % 2 ^ n ⌝ }
+{
+    let h = 64 - r - n;
+    let p = 1u64 << n;
+    (w >> h) % p
+}
+
+// The field of n bits from bit at on; more than 64 bits: 0. Out of eight bytes at once where there are as many.
+pub fn get(s: &[u8], at: usize, n: usize) -> u64
+    ensures { λ r. ⌜ r ≡ gotAt 64 (now (s .entry)) at n ⌝ }
+{
+    if n == 0 {
+        return 0;
+    }
+    if 56 < n {
+        return by_bytes(s, at, n);
+    }
+    let j = at / 8;
+    if s.len() < j + 8 {
+        return by_bytes(s, at, n);
+    }
+    let high = four(s, j);
+    let low = four(s, j + 4);
+    part(high * 0x100000000 + low, at % 8, n)
+}
+
+// The 24 bits from byte j on.
+fn three(s: &[u8], j: usize) -> u64
+    requires { ⌜ (j + 2 < length (now s)) × (j < 2 ^ 62) ⌝ }
+    ensures { λ r. ⌜ r ≡ fieldAt (now (s .entry)) (8 * j) 24 ⌝ }
+{
+    joined(0, s[j], s[j + 1], s[j + 2])
+}
+
+// The n bits after the first r of the 24 in w.
+fn part24(w: u64, r: usize, n: usize) -> u64
+    requires { ⌜ (n ≤ 16) × (r < 8) ⌝ }
+    ensures { λ y. ⌜ y ≡ w / 2 ^ (24 - r - n) % 2 ^ n ⌝ }
+{
+    let h = 24 - r - n;
+    let p = 1u64 << n;
+    (w >> h) % p
+}
+
+// The field of n bits from bit at on, at most 16: out of three bytes at once where there are as many.
+fn get_short(s: &[u8], at: usize, n: usize) -> u64
+    requires { ⌜ n ≤ 16 ⌝ }
+    ensures { λ r. ⌜ r ≡ gotAt 64 (now (s .entry)) at n ⌝ }
+{
+    let j = at / 8;
+    if s.len() < j + 3 {
+        return get(s, at, n);
+    }
+    part24(three(s, j), at % 8, n)
+}
+
 // The field of n bits from bit at on; more than 8 bits: 0.
 pub fn get8(s: &[u8], at: usize, n: usize) -> u8
     ensures { λ r. ⌜ r ≡ gotAt 8 (now (s .entry)) at n ⌝ }
@@ -66,7 +147,7 @@ pub fn get8(s: &[u8], at: usize, n: usize) -> u8
     if n > 8 {
         return 0;
     }
-    get(s, at, n) as u8
+    get_short(s, at, n) as u8
 }
 
 // The field of n bits from bit at on; more than 16 bits: 0.
@@ -76,7 +157,7 @@ pub fn get16(s: &[u8], at: usize, n: usize) -> u16
     if n > 16 {
         return 0;
     }
-    get(s, at, n) as u16
+    get_short(s, at, n) as u16
 }
 
 // The field of n bits from bit at on; more than 32 bits: 0.

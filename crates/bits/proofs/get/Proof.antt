@@ -2,97 +2,69 @@ use borrow.Author.Needs.{needs}
 use native.Mathlib.Omega.{arith}
 use Prim.Native.Nat.{ℕ, zero, suc, _+_, _*_, _-_, _/_, _%_, _^_, _≤_, _<_}
 use mathlib.Core.Path.{_≡_, sym, ap, _∙_, refl, subst}
-use Prim.Native.Nat.{min}
-use borrow.Author.Tests.{lt-leb}
-use Rattle.bits.specs.Bits.{fieldAt}
-use Rattle.bits.proofs.FieldLaws.{got-field, field-zero}
-use Rattle.bits.proofs.ByteWise.{turn, turn-fits, moreOf}
-use lib.ListN.{getD}
-use native.Mathlib.Nat.{zero-mul}
+use lib.ListN.{length, getD}
+use Rattle.bits.proofs.FieldLaws.{field-lt, field-zero}
+use Rattle.bits.proofs.WindowLaws.{window}
 use Rattle.bits.proofs.get.Statement.{statement}
 use Rattle.bits.proofs.get.Tie as tie
-use Rattle.bits.proofs.get.Reads as reads
-use Rattle.bits.proofs.get.Lts as lts
-use Rattle.bits.proofs.byte_at.Reads as byte-at-reads
-use Rattle.bits.proofs.least.Reads as least-reads
-use Rattle.bits.proofs.more.Reads as more-reads
 
-abbrev Inv-loop : tie.InvT-loop
-Inv-loop s at n x₀ left₀ j₀ r₀ x left j r =
-    (n ≤ 64) × (r < 8) × (left ≤ n) × (j + left ≤ at / 8 + n) × (x * 2 ^ left + fieldAt s (8 * j + r) left ≡ fieldAt s at n)
+returns : tie.Need-returns
+returns c = rw (c .if1 .taken) (sym (field-zero _ _))
 
-abbrev μ-loop : tie.MeasureT-loop
-μ-loop s at n x₀ left₀ j₀ r₀ x left j r = left
+by-bytes-requires : tie.Need-by-bytes-requires
+by-bytes-requires c κs = search needs
 
-returns : tie.Need-returns Inv-loop μ-loop
-returns c = simp (lt-leb _ _ (c .if1 .taken))
+returns-2 : tie.Need-returns-2
+returns-2 c = search needs
 
-loop-holds : tie.Need-loop-holds Inv-loop μ-loop
-loop-holds c =
-    let a = c .before .before .args in
-    let e : 8 * (a .at / 8) + a .at % 8 ≡ a .at = omega arith in
-    (omega arith, omega arith, omega arith, omega arith, rw e (omega (arith, zero-mul (2 ^ a .n))))
+add-if3 : tie.Need-add-if3
+add-if3 c = search needs
 
-byte-at-requires : tie.Need-byte-at-requires Inv-loop μ-loop
-byte-at-requires c κs = search needs
+by-bytes-requires-2 : tie.Need-by-bytes-requires-2
+by-bytes-requires-2 c κs = search needs
 
-sub-least : tie.Need-sub-least Inv-loop μ-loop
-sub-least c = search needs
+returns-3 : tie.Need-returns-3
+returns-3 c = search needs
 
-least-requires : tie.Need-least-requires Inv-loop μ-loop
-least-requires c κs = search needs
+four-requires : tie.Need-four-requires
+four-requires c κs = search needs
 
-more-requires : tie.Need-more-requires Inv-loop μ-loop
-more-requires c κs =
-    let i = c .before .before .before .loop in
-    let a = c .before .before .before .before .before .before .args in (
-      omega arith,
-      rw (c .least .ensures, c .before .byte-at .ensures) (turn-fits (a .s .now) (i .x) (i .j) (i .r) (i .left) (a .at) (a .n) (i .inv .1) (i .inv .0) (i .inv .4)),
-    )
+add-four : tie.Need-add-four
+add-four c = search needs
 
-sub-left : tie.Need-sub-left Inv-loop μ-loop
-sub-left c = search needs
+four-requires-2 : tie.Need-four-requires-2
+four-requires-2 c κs = search needs
 
-add-j : tie.Need-add-j Inv-loop μ-loop
-add-j c = search needs
+mul-part : tie.Need-mul-part
+mul-part c = let a = c .before .before .before .before .before .before .args in omega (arith, c .before .four .ensures, field-lt (a .s .now) (8 * (a .at / 8)) 32)
 
-loop-less : tie.Need-loop-less Inv-loop μ-loop
-loop-less c = search needs
+add-part : tie.Need-add-part
+add-part c =
+    let a = c .before .before .before .before .before .before .args in
+    omega (arith, c .before .four .ensures, c .four2 .ensures, field-lt (a .s .now) (8 * (a .at / 8)) 32, field-lt (a .s .now) (8 * (a .at / 8 + 4)) 32)
 
-loop-again : tie.Need-loop-again Inv-loop μ-loop
-loop-again c =
-    let i = c .before .before .before .before .loop in
-    let a = c .before .before .before .before .before .before .before .args in (
-      omega arith,
-      omega arith,
-      omega arith,
-      omega arith,
-      rw (c .more .ensures, c .before .least .ensures, c .before .before .byte-at .ensures) (sym (turn (a .s .now) (i .x) (i .j) (i .r) (i .left) (i .inv .1)) ∙ i .inv .4),
-    )
+part-requires : tie.Need-part-requires
+part-requires c κs = search needs
 
-returns-2 : tie.Need-returns-2 Inv-loop μ-loop
-returns-2 c =
-    let i = c .before .loop in
-    let a = c .before .before .before .before .args in
-    let e : i .left ≡ 0 = omega arith in
-    let h = rw e at (i .inv .4) in
-    let g : i .x ≡ fieldAt (a .s .now) (a .at) (a .n) = omega (arith, field-zero (a .s .now) (8 * i .j + i .r)) in
-    g ∙ sym (got-field 64 (a .s .now) (a .at) (a .n) (i .inv .0))
+returns-4 : tie.Need-returns-4
+returns-4 c =
+    let b = c .before in
+    rw (c .part .ensures, b .before .four .ensures, b .four2 .ensures) (window _ _ _ (omega arith))
 
 pub get-spec : {M : Type 1} → statement M
 get-spec =
     tie.close
     (tie.spec
-    Inv-loop
-    μ-loop
     returns
-    loop-holds
-    byte-at-requires
-    sub-least
-    least-requires
-    more-requires
-    sub-left
-    add-j
-    loop-less
-    loop-again
-    returns-2)
+    by-bytes-requires
+    returns-2
+    add-if3
+    by-bytes-requires-2
+    returns-3
+    four-requires
+    add-four
+    four-requires-2
+    mul-part
+    add-part
+    part-requires
+    returns-4)

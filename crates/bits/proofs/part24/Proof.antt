@@ -1,0 +1,30 @@
+use borrow.Author.Needs.{needs}
+use native.Mathlib.Omega.{arith}
+use Prim.Native.Nat.{ℕ, zero, suc, _+_, _*_, _-_, _/_, _%_, _^_, _≤_, _<_}
+use mathlib.Core.Path.{_≡_, sym, ap, _∙_, refl, subst}
+use lib.ListN.{length, getD}
+use lib.Pow.{pow-pos}
+use Rattle.bits.proofs.PutLaws.{shl-small}
+use Rattle.bits.proofs.part24.Statement.{statement}
+use Rattle.bits.proofs.part24.Tie as tie
+
+sub-h : tie.Need-sub-h
+sub-h c = search needs
+
+sub-h-2 : tie.Need-sub-h-2
+sub-h-2 c = search needs
+
+shl-p : tie.Need-shl-p
+shl-p c = search needs
+
+shr-result : tie.Need-shr-result
+shr-result c = search needs
+
+rem-result : tie.Need-rem-result
+rem-result c = rw (shl-small (c .args .n) (omega arith)) (pow-pos (c .args .n))
+
+returns : tie.Need-returns
+returns c = rw (shl-small (c .args .n) (omega arith)) refl
+
+pub part24-spec : {M : Type 1} → statement M
+part24-spec = tie.close (tie.spec sub-h sub-h-2 shl-p shr-result rem-result returns)
