@@ -1,8 +1,8 @@
 -- Laws of the forms: their lengths, and the parts one after the other.
 use mathlib.Core.Path.{_≡_, refl, sym, _∙_}
 use mathlib.Core.Bool.{Bool}
-use Prim.Native.Nat.{ℕ, _*_}
-use mathlib.Core.List.{List, _++_}
+use Prim.Native.Nat.{ℕ, _*_, _/_, _%_}
+use mathlib.Core.List.{List, [], _∷_, _++_}
 use lib.ListN.{length, replicate, length-append}
 use native.Mathlib.Omega.{arith}
 use Rattle.bits.specs.Bytes.{storeAt}
@@ -58,6 +58,11 @@ pub row-same : (slot number iodn corr s s′ ra ra′ al al′ cr cr′ ck ck′
     s ≡ s′ → ra ≡ ra′ → al ≡ al′ → cr ≡ cr′ → ck ≡ ck′ → k ≡ k′ → q ≡ q′ →
     rowList slot s number iodn corr ra al cr ck k q ≡ rowList slot s′ number iodn corr ra′ al′ cr′ ck′ k′ q′
 row-same slot number iodn corr s s′ ra ra′ al al′ cr cr′ ck ck′ k k′ q q′ a b d e f g h = rw (a, b, d, e, f, g, h)
+
+-- equal numbers, equal orbits
+pub orbit-same : (s i o : ℕ) {r r′ a a′ c c′ k k′ q q′ : ℕ} → r ≡ r′ → a ≡ a′ → c ≡ c′ → k ≡ k′ → q ≡ q′ →
+    _≡_ {A = List ℕ} (s / 256 ∷ s % 256 ∷ i / 256 ∷ i % 256 ∷ o ∷ r / 256 ∷ r % 256 ∷ a / 256 ∷ a % 256 ∷ c / 256 ∷ c % 256 ∷ k ∷ q / 65536 / 256 ∷ q / 65536 % 256 ∷ q % 65536 / 256 ∷ q % 65536 % 256 ∷ []) (s / 256 ∷ s % 256 ∷ i / 256 ∷ i % 256 ∷ o ∷ r′ / 256 ∷ r′ % 256 ∷ a′ / 256 ∷ a′ % 256 ∷ c′ / 256 ∷ c′ % 256 ∷ k′ ∷ q′ / 65536 / 256 ∷ q′ / 65536 % 256 ∷ q′ % 65536 / 256 ∷ q′ % 65536 % 256 ∷ [])
+orbit-same s i o r a c k q = rw (r, a, c, k, q)
 
 -- ---- the parts one after the other
 pub mask-two : (s : List ℕ) (kind : ℕ) (m : MaskPart) → storeAt (storeAt s 0 (maskHead kind (m .epoch) (m .ssr) (m .iodp))) 7 (flagsOf (m .bits)) ≡ storeAt s 0 (maskBytes kind m)

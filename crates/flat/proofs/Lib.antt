@@ -1,3 +1,4 @@
 pub mod StoreLaws
 pub mod SignLaws
 pub mod FlatLaws
+mod ByteLaws

@@ -1,10 +1,14 @@
 -- What the bytes of a slot say, field by field, as they are read: 01's records from a place on.
 use mathlib.Core.Path.{_≡_}
 use mathlib.Core.Logic.{_≢_}
-use Prim.Native.Nat.{ℕ, _+_}
+use Prim.Native.Nat.{ℕ, _+_, _<_}
+use borrow.Author.Needs.{needs}
+use mir.Syntax.{w64}
+use mir.Val.{Fits}
 use mathlib.Core.Bool.{true}
 use mathlib.Core.List.{List}
 use lib.Dec.{eqb}
+use lib.IntN.{ℤ}
 use lib.ListN.{getD}
 use native.Mathlib.Nat.{add-zero}
 use native.Mathlib.Omega.{arith}
@@ -13,6 +17,7 @@ use Rattle.bits.specs.Bytes.{rowAt}
 use Rattle.bits.specs.Table.{table}
 use Rattle.store.specs.Digits.{zagOf, pairOf, quadOf}
 use Rattle.store.specs.Held.{heldAt}
+use Rattle.records.specs.declared.ura.Ura.{Ura}
 use Rattle.form.specs.Form.{noClock, clockPlace, clockAt, heldUra, noOrbit, orbitPlace, orbitAt}
 use Rattle.form.specs.declared.HeldClock.{HeldClock}
 use Rattle.form.specs.declared.HeldOrbit.{HeldOrbit}
@@ -23,6 +28,20 @@ twoAt s at = pairOf (getD s at 0) (getD s (at + 1) 0)
 
 abbrev pub fourAt : List ℕ → ℕ → ℕ
 fourAt s at = quadOf (pairOf (getD s at 0) (getD s (at + 1) 0)) (pairOf (getD s (at + 2) 0) (getD s (at + 3) 0))
+
+-- an orbit made of equal fields
+pub orbit-made : {e e' s s' i i' k k' : ℕ} {r r' a a' c c' : ℤ} {u u' : Ura} → e ≡ e' → s ≡ s' → i ≡ i' → k ≡ k' → r ≡ r' → a ≡ a' → c ≡ c' → u ≡ u' →
+    _≡_ {A = HeldOrbit}
+    (record { has = true; epoch = e; ssr = s; iodn = i; corr = k; radial = r; along = a; cross = c; ura = u })
+    (record { has = true; epoch = e'; ssr = s'; iodn = i'; corr = k'; radial = r'; along = a'; cross = c'; ura = u' })
+orbit-made e s i k r a c u = rw (e, s, i, k, r, a, c, u)
+
+-- a place a little further on
+pub fits-on : {at : ℕ} (k : ℕ) → at < 9440 → k < 100 → Fits w64 (at + k)
+fits-on k h l = search needs
+
+pub lt-on : {at n : ℕ} (k : ℕ) → at < 9440 → k < 100 → 9540 < n → at + k < n
+lt-on k h l m = omega arith
 
 -- offsets added one after the other
 plus : (at m n : ℕ) → at + m + n ≡ at + (m + n)

@@ -36,7 +36,7 @@ loop-again : tie.Need-loop-again Inv-loop μ-loop
 loop-again c =
     let i = c .before .before .before .before .before .loop in
     let a = c .before .before .before .before .before .before .before .args in
-    (omega arith, c .before .before .set-bit .kept .0 ∙ i .inv .1, cc (put-step (i .room) (a .at) (i .k) (i .x) (omega arith)))
+    (omega arith, c .before .before .set-bit .kept .0 ∙ i .inv .1, rw (c .before .before .set-bit .ensures) (sym (put-step (i .room) (a .at) (i .k) (i .x) (omega arith)) ∙ i .inv .2))
 
 same-length : tie.Need-same-length Inv-loop μ-loop
 same-length c = c .before .loop .inv .1

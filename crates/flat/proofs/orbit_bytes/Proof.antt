@@ -1,6 +1,8 @@
 -- Each byte is its digit; radial, along and cross are what they were before the calls.
 use borrow.Author.Needs.{needs}
-use mathlib.Core.Path.{_≡_}
+use mathlib.Core.Path.{_≡_, _∙_, ap}
+use Rattle.flat.specs.Write.{word}
+use Rattle.flat.proofs.FlatLaws.{orbit-same}
 use mir.Syntax.{w16}
 use mir.Val.{toZ, ofZ}
 use Rattle.flat.proofs.orbit_bytes.Statement.{statement}
@@ -63,23 +65,28 @@ cast-t35 c = search needs
 cast-t37 : tie.Need-cast-t37
 cast-t37 c = search needs
 
+back1 : (c : tie.After-raw16) → toZ w16 (ofZ w16 (c .before .before .args .o .radial)) ≡ c .before .before .args .o .radial
+back1 c = search needs
+
+back2 : (c : tie.After-raw162) → toZ w16 (ofZ w16 (c .before .before .before .before .args .o .along)) ≡ c .before .before .before .before .args .o .along
+back2 c = search needs
+
+back3 : (c : tie.After-raw163) → toZ w16 (ofZ w16 (c .before .before .before .before .before .before .args .o .cross)) ≡ c .before .before .before .before .before .before .args .o .cross
+back3 c = search needs
+
 returns : tie.Need-returns
 returns c =
     let c4 = c .before .before .before .before in
-    let o = c4 .before .before .before .before .before .before .before .before .args .o in
-    let z1 : toZ w16 (ofZ w16 (o .radial)) ≡ o .radial = let t = c4 .before .before .before .before .before .before .before in search needs in
-    let z2 : toZ w16 (ofZ w16 (o .along)) ≡ o .along = let t = c4 .before .before .before .before .before in search needs in
-    let z3 : toZ w16 (ofZ w16 (o .cross)) ≡ o .cross = let t = c4 .before .before .before in search needs in
-    rw (
-      c4 .ura-quarters .ensures,
-      c4 .before .ura-kind .ensures,
-      c4 .before .before .raw163 .ensures,
-      c4 .before .before .before .before .raw162 .ensures,
-      c4 .before .before .before .before .before .before .raw16 .ensures,
-      z1,
-      z2,
-      z3,
-    )
+    let r3 = c4 .before .before in
+    let r2 = r3 .before .before in
+    let r1 = r2 .before .before in
+    let o = r1 .before .before .args .o in
+    orbit-same (o .slot) (o .iodn) (o .corr)
+    (r1 .raw16 .ensures ∙ ap word (back1 r1))
+    (r2 .raw162 .ensures ∙ ap word (back2 r2))
+    (r3 .raw163 .ensures ∙ ap word (back3 r3))
+    (c4 .before .ura-kind .ensures)
+    (c4 .ura-quarters .ensures)
 
 pub orbit-bytes-spec : {M : Type 1} → statement M
 orbit-bytes-spec =

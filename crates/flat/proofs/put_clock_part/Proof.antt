@@ -19,7 +19,9 @@ same-length : tie.Need-same-length
 same-length c = search needs
 
 returns : tie.Need-returns
-returns c = let a = c .before .before .before .before .before .before .before .before .before .before .before .before .args in cc (clocks-two (a .room .now) (a .p))
+returns c =
+    let a = c .before .before .before .before .before .before .before .before .before .before .before .before .args in
+    rw (c .before .before .put-clocks .ensures, c .before .before .before .before .before .before .store .ensures, c .before .before .before .before .before .before .before .before .before .before .clock-head .ensures) (clocks-two (a .room .now) (a .p))
 
 pub put-clock-part-spec : {M : Type 1} → statement M
 put-clock-part-spec =

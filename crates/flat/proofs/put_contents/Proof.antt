@@ -16,7 +16,9 @@ same-length : tie.Need-same-length
 same-length c = search needs
 
 returns : tie.Need-returns
-returns c = let a = c .before .before .before .before .before .before .before .before .before .before .before .before .before .before .before .before .args in cc (contents-three (a .room .now) (a .c))
+returns c =
+    let a = c .before .before .before .before .before .before .before .before .before .before .before .before .before .before .before .before .args in
+    rw (c .before .before .put-orbit-part .ensures, c .before .before .before .before .before .before .put-clock-part .ensures, c .before .before .before .before .before .before .before .before .before .before .put-mask-part .ensures) (contents-three (a .room .now) (a .c))
 
 pub put-contents-spec : {M : Type 1} → statement M
 put-contents-spec =

@@ -25,7 +25,9 @@ same-length : tie.Need-same-length
 same-length c = search needs
 
 returns : tie.Need-returns
-returns c = let a = c .before .before .before .before .before .before .before .before .before .before .before .before .before .before .args in cc (mask-two (a .room .now) (a .kind) (a .m))
+returns c =
+    let a = c .before .before .before .before .before .before .before .before .before .before .before .before .before .before .args in
+    rw (c .before .before .store2 .ensures, c .before .before .before .before .before .before .before .store .ensures, c .before .before .before .before .before .before .before .before .before .before .flags-of .ensures, c .before .before .before .before .before .before .before .before .before .before .before .before .mask-head .ensures) (mask-two (a .room .now) (a .kind) (a .m))
 
 pub put-mask-part-spec : {M : Type 1} → statement M
 put-mask-part-spec =

@@ -19,7 +19,9 @@ same-length : tie.Need-same-length
 same-length c = search needs
 
 returns : tie.Need-returns
-returns c = let a = c .before .before .before .before .before .before .before .before .before .before .before .before .args in cc (orbits-two (a .room .now) (a .p))
+returns c =
+    let a = c .before .before .before .before .before .before .before .before .before .before .before .before .args in
+    rw (c .before .before .put-orbits .ensures, c .before .before .before .before .before .before .store .ensures, c .before .before .before .before .before .before .before .before .before .before .orbit-head .ensures) (orbits-two (a .room .now) (a .p))
 
 pub put-orbit-part-spec : {M : Type 1} → statement M
 put-orbit-part-spec =

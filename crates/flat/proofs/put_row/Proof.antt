@@ -15,7 +15,7 @@ same-length : tie.Need-same-length
 same-length c = search needs
 
 returns : tie.Need-returns
-returns c = cc
+returns c = rw (c .before .before .store .ensures, c .before .before .before .before .before .row-bytes .ensures)
 
 pub put-row-spec : {M : Type 1} → statement M
 put-row-spec =

@@ -1,11 +1,12 @@
+use Rattle.flat.proofs.ByteLaws.{high, low, top, mid}
 -- Each byte is its digit; numbers with a sign are what they were before the calls.
 use borrow.Author.Needs.{needs}
 use mathlib.Core.Path.{_≡_, ap, _∙_}
-use mir.Syntax.{w32}
+use mir.Syntax.{w32, w16}
 use Rattle.flat.specs.Write.{long}
 use Rattle.flat.proofs.FlatLaws.{row-same}
 use Rattle.list.specs.declared.row.Row.{Row}
-use mir.Val.{toZ, ofZ}
+use mir.Val.{toZ, ofZ, Fits}
 use Rattle.flat.proofs.row_bytes.Statement.{statement}
 use Rattle.flat.proofs.row_bytes.Tie as tie
 
@@ -18,6 +19,24 @@ record Back (r : Row) : Type 0 where
 
 back : (c : tie.After-struct-told) → Back (c .before .before .before .args .r)
 back c = record { radial = search needs; along = search needs; cross = search needs; clock = search needs }
+
+iodn-fits : (c : tie.Start) → Fits w16 (c .args .r .iodn)
+iodn-fits c = search needs
+
+raw32-fits : (c : tie.After-raw32) → Fits w32 (c .raw32 .result)
+raw32-fits c = search needs
+
+raw322-fits : (c : tie.After-raw322) → Fits w32 (c .raw322 .result)
+raw322-fits c = search needs
+
+raw323-fits : (c : tie.After-raw323) → Fits w32 (c .raw323 .result)
+raw323-fits c = search needs
+
+raw324-fits : (c : tie.After-raw324) → Fits w32 (c .raw324 .result)
+raw324-fits c = search needs
+
+ura-quarters-fits : (c : tie.After-ura-quarters) → Fits w32 (c .ura-quarters .result)
+ura-quarters-fits c = search needs
 
 system-number-requires : tie.Need-system-number-requires
 system-number-requires c κs = search needs
@@ -41,70 +60,70 @@ ura-quarters-requires : tie.Need-ura-quarters-requires
 ura-quarters-requires c κs = search needs
 
 cast-t13 : tie.Need-cast-t13
-cast-t13 c = search needs
+cast-t13 c = high (iodn-fits (c .before .before .before .before .before .before .before .before .before .before .before .before .before))
 
 cast-t15 : tie.Need-cast-t15
-cast-t15 c = search needs
+cast-t15 c = low _
 
 cast-t18 : tie.Need-cast-t18
-cast-t18 c = search needs
+cast-t18 c = top (raw32-fits (c .before .before .before .before .before .before .before .before .before .before))
 
 cast-t21 : tie.Need-cast-t21
-cast-t21 c = search needs
+cast-t21 c = low _
 
 cast-t24 : tie.Need-cast-t24
-cast-t24 c = search needs
+cast-t24 c = mid _
 
 cast-t27 : tie.Need-cast-t27
-cast-t27 c = search needs
+cast-t27 c = low _
 
 cast-t30 : tie.Need-cast-t30
-cast-t30 c = search needs
+cast-t30 c = top (raw322-fits (c .before .before .before .before .before .before .before .before))
 
 cast-t33 : tie.Need-cast-t33
-cast-t33 c = search needs
+cast-t33 c = low _
 
 cast-t36 : tie.Need-cast-t36
-cast-t36 c = search needs
+cast-t36 c = mid _
 
 cast-t39 : tie.Need-cast-t39
-cast-t39 c = search needs
+cast-t39 c = low _
 
 cast-t42 : tie.Need-cast-t42
-cast-t42 c = search needs
+cast-t42 c = top (raw323-fits (c .before .before .before .before .before .before))
 
 cast-t45 : tie.Need-cast-t45
-cast-t45 c = search needs
+cast-t45 c = low _
 
 cast-t48 : tie.Need-cast-t48
-cast-t48 c = search needs
+cast-t48 c = mid _
 
 cast-t51 : tie.Need-cast-t51
-cast-t51 c = search needs
+cast-t51 c = low _
 
 cast-t54 : tie.Need-cast-t54
-cast-t54 c = search needs
+cast-t54 c = top (raw324-fits (c .before .before .before .before))
 
 cast-t57 : tie.Need-cast-t57
-cast-t57 c = search needs
+cast-t57 c = low _
 
 cast-t60 : tie.Need-cast-t60
-cast-t60 c = search needs
+cast-t60 c = mid _
 
 cast-t63 : tie.Need-cast-t63
-cast-t63 c = search needs
+cast-t63 c = low _
 
 cast-t66 : tie.Need-cast-t66
-cast-t66 c = search needs
+cast-t66 c = top (ura-quarters-fits (c .before .before))
 
 cast-t69 : tie.Need-cast-t69
-cast-t69 c = search needs
+cast-t69 c = low _
 
 cast-t72 : tie.Need-cast-t72
-cast-t72 c = search needs
+cast-t72 c = mid _
 
 cast-t75 : tie.Need-cast-t75
-cast-t75 c = search needs
+cast-t75 c = low _
 
 returns : tie.Need-returns
 returns c =

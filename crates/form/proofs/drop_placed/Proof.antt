@@ -1,11 +1,12 @@
 -- The clocks of slots 1 to i are dropped.
 use borrow.Author.Needs.{needs}
 use native.Mathlib.Omega.{arith}
-use Prim.Native.Nat.{_-_, _≤_}
-use mathlib.Core.Path.{_≡_, sym, _∙_, refl}
+use Prim.Native.Nat.{ℕ, _+_, _-_, _≤_}
+use mathlib.Core.List.{List}
+use mathlib.Core.Path.{_≡_, sym, ap, _∙_, refl}
 use lib.ListN.{length}
 use Rattle.store.proofs.DropLaws.{drop-start, drop-step}
-use Rattle.form.specs.Form.{clocksKept, clockOf, clockBytes, droppedClocks}
+use Rattle.form.specs.Form.{clocksKept, clockOf, clockBytes, dropClock, droppedClocks}
 use Rattle.form.proofs.drop_placed.Statement.{statement}
 use Rattle.form.proofs.drop_placed.Tie as tie
 
@@ -34,7 +35,7 @@ loop-again : tie.Need-loop-again Inv-loop μ-loop
 loop-again c =
     let l = c .before .before .before .before .before .loop in
     let a = c .before .before .before .before .before .before .before .args in
-    (omega arith, c .before .before .drop-clock .kept .0 ∙ l .inv .1, cc (drop-step clocksKept clockOf clockBytes 12 (a .t .now) 260 (l .i)))
+    (omega arith, c .before .before .drop-clock .kept .0 ∙ l .inv .1, c .before .before .drop-clock .ensures ∙ ap (λ (s : List ℕ). dropClock s (l .i + 1)) (l .inv .2) ∙ sym (drop-step clocksKept clockOf clockBytes 12 (a .t .now) 260 (l .i)))
 
 same-length : tie.Need-same-length Inv-loop μ-loop
 same-length c = search needs

@@ -1,11 +1,19 @@
 -- The place's first byte decides; each field is what its bytes say.
 use borrow.Author.Needs.{needs}
-use mathlib.Core.Path.{_≡_, _∙_}
+use mathlib.Core.Path.{_≡_, _∙_, ap, ap₂}
+use Rattle.store.specs.Digits.{zagOf}
+use Rattle.form.specs.Form.{heldUra}
+use Prim.Native.Nat.{_<_}
+use lib.Dec.{lit<}
 use mir.Syntax.{w16}
 use mir.Val.{toZ, ofZ}
-use Rattle.form.proofs.ReadLaws.{orbit-none, orbit-some}
+use Rattle.form.proofs.ReadLaws.{orbit-none, orbit-some, orbit-made, fits-on, lt-on}
 use Rattle.form.proofs.get_orbit.Statement.{statement}
 use Rattle.form.proofs.get_orbit.Tie as tie
+
+-- a place lies within the ledger
+small : (c : tie.After-orbit-place) → c .orbit-place .result < 9440
+small c = search needs
 
 orbit-place-requires : tie.Need-orbit-place-requires
 orbit-place-requires c κs = search needs
@@ -23,70 +31,80 @@ returns c =
     c .no-orbit .ensures ∙ orbit-none (a .t .now) (a .slot) _ e (rw (c .before .before .byte .ensures) at (c .before .if1 .taken))
 
 add-four : tie.Need-add-four
-add-four c = search needs
+add-four c = fits-on _ (small (c .before .before)) (lit< tt)
 
 four-requires : tie.Need-four-requires
-four-requires c κs = search needs
+four-requires c κs = lt-on _ (small (c .before .before)) (lit< tt) (lit< tt)
 
 add-byte : tie.Need-add-byte
-add-byte c = search needs
+add-byte c = fits-on _ (small (c .before .before .before)) (lit< tt)
 
 byte-requires-2 : tie.Need-byte-requires-2
 byte-requires-2 c κs = search needs
 
 add-two : tie.Need-add-two
-add-two c = search needs
+add-two c = fits-on _ (small (c .before .before .before .before)) (lit< tt)
 
 two-requires : tie.Need-two-requires
-two-requires c κs = search needs
+two-requires c κs = lt-on _ (small (c .before .before .before .before)) (lit< tt) (lit< tt)
 
 add-byte-2 : tie.Need-add-byte-2
-add-byte-2 c = search needs
+add-byte-2 c = fits-on _ (small (c .before .before .before .before .before)) (lit< tt)
 
 byte-requires-3 : tie.Need-byte-requires-3
 byte-requires-3 c κs = search needs
 
 add-two-2 : tie.Need-add-two-2
-add-two-2 c = search needs
+add-two-2 c = fits-on _ (small (c .before .before .before .before .before .before)) (lit< tt)
 
 two-requires-2 : tie.Need-two-requires-2
-two-requires-2 c κs = search needs
+two-requires-2 c κs = lt-on _ (small (c .before .before .before .before .before .before)) (lit< tt) (lit< tt)
 
 zag-requires : tie.Need-zag-requires
 zag-requires c κs = search needs
 
 add-two-3 : tie.Need-add-two-3
-add-two-3 c = search needs
+add-two-3 c = fits-on _ (small (c .before .before .before .before .before .before .before .before)) (lit< tt)
 
 two-requires-3 : tie.Need-two-requires-3
-two-requires-3 c κs = search needs
+two-requires-3 c κs = lt-on _ (small (c .before .before .before .before .before .before .before .before)) (lit< tt) (lit< tt)
 
 zag-requires-2 : tie.Need-zag-requires-2
 zag-requires-2 c κs = search needs
 
 add-two-4 : tie.Need-add-two-4
-add-two-4 c = search needs
+add-two-4 c = fits-on _ (small (c .before .before .before .before .before .before .before .before .before .before)) (lit< tt)
 
 two-requires-4 : tie.Need-two-requires-4
-two-requires-4 c κs = search needs
+two-requires-4 c κs = lt-on _ (small (c .before .before .before .before .before .before .before .before .before .before)) (lit< tt) (lit< tt)
 
 zag-requires-3 : tie.Need-zag-requires-3
 zag-requires-3 c κs = search needs
 
 add-byte-3 : tie.Need-add-byte-3
-add-byte-3 c = search needs
+add-byte-3 c = fits-on _ (small (c .before .before .before .before .before .before .before .before .before .before .before .before)) (lit< tt)
 
 byte-requires-4 : tie.Need-byte-requires-4
 byte-requires-4 c κs = search needs
 
 add-four-2 : tie.Need-add-four-2
-add-four-2 c = search needs
+add-four-2 c = fits-on _ (small (c .before .before .before .before .before .before .before .before .before .before .before .before .before)) (lit< tt)
 
 four-requires-2 : tie.Need-four-requires-2
-four-requires-2 c κs = search needs
+four-requires-2 c κs = lt-on _ (small (c .before .before .before .before .before .before .before .before .before .before .before .before .before)) (lit< tt) (lit< tt)
 
 held-ura-requires : tie.Need-held-ura-requires
 held-ura-requires c κs = search needs
+
+-- numbers with their sign are what the calls returned
+back : (c : tie.After-zag) → toZ w16 (ofZ w16 (c .zag .result)) ≡ c .zag .result
+back c = search needs
+
+back2 : (c : tie.After-zag2) → toZ w16 (ofZ w16 (c .zag2 .result)) ≡ c .zag2 .result
+back2 c = search needs
+
+back3 : (c : tie.After-zag3) → toZ w16 (ofZ w16 (c .zag3 .result)) ≡ c .zag3 .result
+back3 c = search needs
 
 returns-2 : tie.Need-returns-2
 returns-2 c =
@@ -98,27 +116,16 @@ returns-2 c =
     let p = c12 .before .before .before .orbit-place in
     let b = c12 .before .before .byte in
     let n = c12 .before .if1 .left in
-    let z1 : toZ w16 (ofZ w16 (c6 .before .zag .result)) ≡ c6 .before .zag .result = search needs in
-    let z2 : toZ w16 (ofZ w16 (c3 .before .before .zag2 .result)) ≡ c3 .before .before .zag2 .result = search needs in
-    let z3 : toZ w16 (ofZ w16 (c3 .zag3 .result)) ≡ c3 .zag3 .result = search needs in
-    rw (
-      z1,
-      z2,
-      z3,
-      c .held-ura .ensures,
-      c .before .four2 .ensures,
-      c .before .before .byte4 .ensures,
-      c3 .zag3 .ensures,
-      c3 .before .two4 .ensures,
-      c3 .before .before .zag2 .ensures,
-      c6 .two3 .ensures,
-      c6 .before .zag .ensures,
-      c6 .before .before .two2 .ensures,
-      c9 .byte3 .ensures,
-      c9 .before .two .ensures,
-      c9 .before .before .byte2 .ensures,
-      c12 .four .ensures,
-    ) (orbit-some (a .t .now) (a .slot) (p .result) (p .ensures) (rw (b .ensures) at n))
+    orbit-made
+    (c12 .four .ensures)
+    (c9 .before .before .byte2 .ensures)
+    (c9 .before .two .ensures)
+    (c9 .byte3 .ensures)
+    (back (c6 .before) ∙ c6 .before .zag .ensures ∙ ap zagOf (c6 .before .before .two2 .ensures))
+    (back2 (c3 .before .before) ∙ c3 .before .before .zag2 .ensures ∙ ap zagOf (c6 .two3 .ensures))
+    (back3 c3 ∙ c3 .zag3 .ensures ∙ ap zagOf (c3 .before .two4 .ensures))
+    (c .held-ura .ensures ∙ ap₂ heldUra (c .before .before .byte4 .ensures) (c .before .four2 .ensures))
+    ∙ orbit-some (a .t .now) (a .slot) (p .result) (p .ensures) (rw (b .ensures) at n)
 
 pub get-orbit-spec : {M : Type 1} → statement M
 get-orbit-spec =

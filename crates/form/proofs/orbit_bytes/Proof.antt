@@ -1,8 +1,10 @@
 -- Each byte is its digit; radial, along and cross are what they were before the calls.
 use borrow.Author.Needs.{needs}
-use mathlib.Core.Path.{_≡_}
+use mathlib.Core.Path.{_≡_, _∙_, ap}
+use Rattle.store.specs.Digits.{zigOf}
 use mir.Syntax.{w16}
 use mir.Val.{toZ, ofZ}
+use Rattle.form.proofs.ByteLaws.{bytes-made}
 use Rattle.form.specs.declared.HeldOrbit.{HeldOrbit}
 use Rattle.form.proofs.orbit_bytes.Statement.{statement}
 use Rattle.form.proofs.orbit_bytes.Tie as tie
@@ -88,17 +90,14 @@ returns c =
     let c8 = c4 .before .before .before .before in
     let c12 = c8 .before .before .before .before in
     let b = back (c8 .before) in
-    rw (
-      c .before .before .ura-quarters .ensures,
-      c .before .before .before .ura-kind .ensures,
-      c4 .zig3 .ensures,
-      c4 .before .before .zig2 .ensures,
-      c8 .zig .ensures,
-      c12 .flag .ensures,
-      b .radial,
-      b .along,
-      b .cross,
-    )
+    let h = c8 .before .before .before .before .before .args .h in
+    bytes-made (h .epoch) (h .ssr) (h .iodn) (h .corr)
+    (c12 .flag .ensures)
+    (c8 .zig .ensures ∙ ap zigOf (b .radial))
+    (c4 .before .before .zig2 .ensures ∙ ap zigOf (b .along))
+    (c4 .zig3 .ensures ∙ ap zigOf (b .cross))
+    (c .before .before .before .ura-kind .ensures)
+    (c .before .before .ura-quarters .ensures)
 
 pub orbit-bytes-spec : {M : Type 1} → statement M
 orbit-bytes-spec =

@@ -9,7 +9,7 @@ bit-requires : tie.Need-bit-requires
 bit-requires c κs = search needs
 
 returns : tie.Need-returns
-returns c = cc
+returns c = rw (c .bit .ensures)
 
 pub mask-bit-spec : {M : Type 1} → statement M
 mask-bit-spec = tie.close (tie.spec add-a bit-requires returns)

@@ -33,7 +33,7 @@ read-bits-requires : tie.Need-read-bits-requires
 read-bits-requires c κs = search needs
 
 returns : tie.Need-returns
-returns c = cc
+returns c = rw (c .read-bits .ensures, c .before .get82 .ensures, c .before .before .get8 .ensures, c .before .before .before .get32 .ensures)
 
 pub read-mask-part-spec : {M : Type 1} → statement M
 read-mask-part-spec =

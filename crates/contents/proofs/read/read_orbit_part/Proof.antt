@@ -21,7 +21,7 @@ read-orbits-requires : tie.Need-read-orbits-requires
 read-orbits-requires c κs = search needs
 
 returns : tie.Need-returns
-returns c = cc
+returns c = rw (c .read-orbits .ensures, c .before .get8 .ensures, c .before .before .get32 .ensures)
 
 pub read-orbit-part-spec : {M : Type 1} → statement M
 read-orbit-part-spec =

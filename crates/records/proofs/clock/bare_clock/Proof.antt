@@ -19,7 +19,7 @@ get15-requires c κs = search needs
 returns : tie.Need-returns
 returns c =
     let r : toZ w16 (ofZ w16 (c .get15 .result)) ≡ c .get15 .result = search needs in
-    rw (add-zero (c .before .before .before .args .at), field-zero _ _, r) (cc)
+    rw (add-zero (c .before .before .before .args .at), field-zero _ _, r, c .get15 .ensures, c .before .get8 .ensures)
 
 pub bare-clock-spec : {M : Type 1} → statement M
 bare-clock-spec = tie.close (tie.spec get8-requires add-a1 get15-requires returns)

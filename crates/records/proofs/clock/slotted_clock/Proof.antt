@@ -30,7 +30,7 @@ get15-requires c κs = search needs
 returns-2 : tie.Need-returns-2
 returns-2 c =
     let r : toZ w16 (ofZ w16 (c .get15 .result)) ≡ c .get15 .result = search needs in
-    rw (ne-eqb _ _ (λ z. c .before .before .if1 .left (c .before .before .before .get16 .ensures ∙ z)), r) (cc)
+    rw (ne-eqb _ _ (λ z. c .before .before .if1 .left (c .before .before .before .get16 .ensures ∙ z)), r, c .get15 .ensures, c .before .get8 .ensures, c .before .before .before .get16 .ensures)
 
 pub slotted-clock-spec : {M : Type 1} → statement M
 slotted-clock-spec =

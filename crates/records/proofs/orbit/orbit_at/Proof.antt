@@ -64,7 +64,7 @@ returns-2 c =
     let r : toZ w16 (ofZ w16 (c .before .before .before .before .get15 .result)) ≡ c .before .before .before .before .get15 .result = search needs in
     let l : toZ w16 (ofZ w16 (c .before .before .before .get13 .result)) ≡ c .before .before .before .get13 .result = search needs in
     let x : toZ w16 (ofZ w16 (c .before .before .get132 .result)) ≡ c .before .before .get132 .result = search needs in
-    rw (ne-eqb _ _ (λ z. before-radial .before .before .if1 .left (start .get16 .ensures ∙ z)), r, l, x, ← (code-at (a .s .now) (a .at + 9 + 10 + 3 + 15 + 13 + 13))) (cc)
+    rw (ne-eqb _ _ (λ z. before-radial .before .before .if1 .left (start .get16 .ensures ∙ z)), r, l, x, ← (code-at (a .s .now) (a .at + 9 + 10 + 3 + 15 + 13 + 13)), c .ura-of .ensures, c .before .get82 .ensures, c .before .before .get132 .ensures, c .before .before .before .get13 .ensures, c .before .before .before .before .get15 .ensures, c .before .before .before .before .before .get8 .ensures, c .before .before .before .before .before .before .get162 .ensures, c .before .before .before .before .before .before .before .before .get16 .ensures)
 
 pub orbit-at-spec : {M : Type 1} → statement M
 orbit-at-spec =
