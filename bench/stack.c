@@ -1,14 +1,13 @@
 /* How many bytes of stack one call of qvd_take uses, at most, over the frames of a log: the stack below is painted, the call is made, and
  * what is no longer painted is counted. */
-#include "library.h"
-#include <stdint.h>
+#include "quieuvodan.h"
 #include <stdio.h>
 
 #pragma GCC diagnostic ignored "-Wuninitialized"
 #pragma GCC diagnostic ignored "-Wunused-but-set-variable"
 
-enum { PAINTED = 256 * 1024, FRAME = 125, BYTES = 9440 };
-static uint8_t ledger[BYTES];
+enum { PAINTED = 256 * 1024 };
+static uint8_t ledger[QVD_LEDGER_BYTES];
 
 __attribute__((noinline)) static void paint(void) {
     volatile uint8_t room[PAINTED];
@@ -29,7 +28,7 @@ int main(int argc, char **argv) {
     qvd_open(ledger, sizeof ledger, 60);
     paint();
     int idle = used(), most = 0;
-    uint8_t frame[FRAME];
+    uint8_t frame[QVD_FRAME_BYTES];
     size_t n;
     while ((n = fread(frame, 1, sizeof frame, log)) > 0) {
         paint();
