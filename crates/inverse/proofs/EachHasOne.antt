@@ -10,7 +10,7 @@ use Rattle.bits.specs.Table.{table}
 use Rattle.bits.proofs.TableLaws.{length-table, getD-table}
 use Rattle.bits.proofs.XorLaws.{xor-zero}
 use Rattle.field64.proofs.ProductLaws.{product-lt}
-use Rattle.parity.specs.Tables.{positions, factors}
+use Rattle.parity_tables.specs.Tables.{positions, factors}
 use Rattle.inverse.specs.Inverse.{secondHalf}
 use Rattle.inverse.specs.OneParity.{groupSum, IsParity, EachHasOne}
 use Rattle.inverse.proofs.SumLaws.{sum-lt}

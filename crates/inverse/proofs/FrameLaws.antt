@@ -16,7 +16,7 @@ use Rattle.bits.proofs.FieldLaws.{field-lt}
 use Rattle.bits.proofs.TableLaws.{length-table, getD-table}
 use Rattle.bits.proofs.Below.{both-left, both-right}
 use Rattle.field64.specs.Field.{product}
-use Rattle.parity.specs.Tables.{positions, factors}
+use Rattle.parity_tables.specs.Tables.{positions, factors}
 use Rattle.parity.specs.Parity.{symbolOf, rowSum, zeroFrom, parityOk}
 use Rattle.inverse.specs.OneParity.{groupSum, IsParity, symbolsFrom, PassesBy}
 use Rattle.inverse.proofs.GroupLaws.{small, all-small}

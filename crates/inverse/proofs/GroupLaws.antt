@@ -12,7 +12,7 @@ use Rattle.bits.specs.Pick.{pick}
 use Rattle.bits.proofs.Below.{both, both-left, both-right, all, below}
 use Rattle.field64.specs.Field.{product}
 use Rattle.field64.proofs.FieldLaws.{product-xor-left, product-zero-left}
-use Rattle.parity.specs.Tables.{positions, factors}
+use Rattle.parity_tables.specs.Tables.{positions, factors}
 use Rattle.inverse.specs.Inverse.{sumTo, factorAt, matrix, secondHalf}
 use Rattle.inverse.specs.OneParity.{groupSum}
 use Rattle.inverse.proofs.SumLaws.{sum-ext, sum-zero, sum-xor, sum-split, sum-single}

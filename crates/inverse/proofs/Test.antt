@@ -8,7 +8,7 @@ use Rattle.bits.specs.Poly.{timesX}
 use Rattle.bits.proofs.Below.{all, below}
 use Rattle.field64.specs.Field.{product, productRun, addIf, twiceOf}
 use Rattle.field64.proofs.FieldLaws.{product-zero-left, product-zero-right}
-use Rattle.parity.specs.Tables.{positions, factors}
+use Rattle.parity_tables.specs.Tables.{positions, factors}
 use Rattle.inverse.specs.Inverse.{factorAt, secondHalf, unit, times, HasInverse}
 use Rattle.inverse.proofs.Rows.{rows, entry}
 use Rattle.inverse.proofs.SumLaws.{sum-ext, terms, sumOver, sum-terms}

@@ -7,7 +7,7 @@ use lib.ListN.{getD}
 use lib.Bits.{bitXor}
 use Rattle.bits.specs.Pick.{pick}
 use Rattle.field64.specs.Field.{product}
-use Rattle.parity.specs.Tables.{positions, factors}
+use Rattle.parity_tables.specs.Tables.{positions, factors}
 
 -- 01, Parity and check bits: the sum of f 0, f 1, .. f (n - 1) in the field of 64
 unfoldable pub sumTo : (ℕ → ℕ) → ℕ → ℕ

@@ -7,7 +7,7 @@ use lib.ListN.{getD, length}
 use lib.Bits.{bitXor}
 use Rattle.bits.specs.Table.{table}
 use Rattle.field64.specs.Field.{product}
-use Rattle.parity.specs.Tables.{positions, factors}
+use Rattle.parity_tables.specs.Tables.{positions, factors}
 use Rattle.parity.specs.Parity.{symbolOf, parityOk}
 
 -- 01, Parity and check bits: a group's sum of factor times symbol at the position, over a word of symbols

@@ -22,7 +22,7 @@ use Rattle.field64.specs.Field.{product}
 use Rattle.field64.specs.Padded.{padLog, padLogs, padPowers}
 use Rattle.field64.proofs.PaddedLaws.{padded}
 use Rattle.parity.specs.Parity.{symbolOf, rowSum, groupFails}
-use Rattle.parity.specs.Tables.{positions, factors}
+use Rattle.parity_tables.specs.Tables.{positions, factors}
 use Rattle.parity.specs.Unpacked.{symbolLog, symbolLogs, termBy, rowBy, failsBy}
 
 -- the m bits that stand k bits from the end of a wider field

@@ -8,7 +8,7 @@ use lib.Bits.{bitXor}
 use Rattle.bits.specs.Bits.{fieldAt}
 use Rattle.bits.specs.Pick.{pick}
 use Rattle.field64.specs.Field.{product}
-use Rattle.parity.specs.Tables.{positions, factors}
+use Rattle.parity_tables.specs.Tables.{positions, factors}
 use Rattle.parity.specs.declared.Groups.{Groups}
 
 -- 01, What arrives: symbol k, from 0, of the coded part, which begins at bit 28: six bits, high bit first

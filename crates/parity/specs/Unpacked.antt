@@ -8,7 +8,7 @@ use lib.Bits.{bitXor}
 use Rattle.bits.specs.Table.{table}
 use Rattle.field64.specs.Padded.{padLog, padLogs, padPowers}
 use Rattle.parity.specs.Parity.{symbolOf}
-use Rattle.parity.specs.Tables.{positions, factors}
+use Rattle.parity_tables.specs.Tables.{positions, factors}
 
 -- the logarithm of symbol k
 unfoldable pub symbolLog : List ℕ → ℕ → ℕ
