@@ -3,6 +3,7 @@ use mathlib.Core.Path.{_≡_, refl, sym, ap, ap₂, _∙_}
 use mathlib.Core.Logic.{dite}
 use Prim.Native.Nat.{ℕ, _+_, _%_, _<_, _≤_}
 use native.Mathlib.Decide.{ℕ-discrete}
+use native.Mathlib.Nat.{mod-eq-of-lt}
 use native.Mathlib.Omega.{arith}
 use lib.Dec.{eqb}
 use lib.ListN.{getD}
@@ -31,7 +32,7 @@ within : (n : ℕ) → n < 126 → padPower n ≡ power n
 unfolding padPower
 within n h = rw (lt-ltb n 126 h) refl
 
--- every logarithm is within a byte
+-- every logarithm is so small that the sum of two is within a byte
 pub pad-lt : (a : ℕ) → padLog a < 127
 pad-lt a =
     dite (ℕ-discrete (a % 64) 0)
@@ -59,9 +60,9 @@ pub pad-at : (a : ℕ) → a < 256 → getD padLogs a 0 ≡ padLog a
 unfolding padLogs
 pad-at a h = getD-table padLog 256 a 0 h
 
--- the same by the tables: a and l are bytes, and l is the logarithm of b
-pub padded : (a b l : ℕ) → a < 256 → l ≡ padLog b → getD padPowers (getD padLogs a 0 + l) 0 ≡ product a b
+-- the same by the tables: a is a byte, and l is the logarithm of b
+pub padded : (a b l : ℕ) → a < 256 → l ≡ padLog b → getD padPowers ((getD padLogs a 0 + l) % 256) 0 ≡ product a b
 unfolding padPowers
 padded a b l h e =
-    rw (e, pad-at a h)
-    (getD-table padPower 512 (padLog a + padLog b) 0 (omega (arith, pad-lt a, pad-lt b)) ∙ pad-product a b)
+    let s : padLog a + padLog b < 256 = omega (arith, pad-lt a, pad-lt b) in
+    rw (e, pad-at a h, mod-eq-of-lt s) (getD-table padPower 256 (padLog a + padLog b) 0 s ∙ pad-product a b)

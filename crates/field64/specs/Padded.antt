@@ -18,6 +18,6 @@ padPower n = pick (ltb n 126) (power n) 0
 unfoldable pub padLogs : List ℕ
 padLogs = table padLog 256
 
--- the table for the sum of any two bytes
+-- the table for the sum of any two exponents, which is within a byte
 unfoldable pub padPowers : List ℕ
-padPowers = table padPower 512
+padPowers = table padPower 256

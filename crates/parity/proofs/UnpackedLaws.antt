@@ -6,7 +6,7 @@ use Prim.Native.Nat.{ℕ, zero, suc, _+_, _-_, _*_, _/_, _%_, _^_, _<_, _≤_}
 use native.Mathlib.Nat.{add-zero, mul-assoc}
 use native.Mathlib.Numerals.{add-one}
 use native.Mathlib.Omega.{arith}
-use lib.Dec.{T, eqb, ltb, ltb→lt}
+use lib.Dec.{T, eqb, eqb→eq, ltb, ltb→lt}
 use lib.Bits.{bitXor, xor-zero-r}
 use lib.Pow.{high, low}
 use lib.ListN.{getD, length, drop, replicate, drop-of-length-le, List·getD-append}
@@ -99,6 +99,22 @@ unfolding symbolLogs symbolLog
 log-at s k h =
     List·getD-append (table (symbolLog s) 164) (replicate 92 0) 0 k (rw (length-table (symbolLog s) 164) h)
     ∙ getD-table (symbolLog s) 164 k 0 h
+
+-- four positions and four factors, by one test over the groups
+long : ℕ → Bool
+long g = both (eqb (length (getD positions g [])) 4) (eqb (length (getD factors g [])) 4)
+
+test-long : T (all long 81)
+unfolding long positions factors
+test-long = tt
+
+pub four-long : (g : ℕ) → g < 81 → (length (getD positions g []) ≡ 4) × (length (getD factors g []) ≡ 4)
+unfolding long
+four-long g h =
+    let t = below long 81 test-long g h in
+    let p = eqb (length (getD positions g [])) 4 in
+    let f = eqb (length (getD factors g [])) 4 in
+    (eqb→eq _ 4 (both-left p f t), eqb→eq _ 4 (both-right p f t))
 
 -- positions within the symbols and factors within a byte, by one test over the groups
 fitting : List ℕ → List ℕ → Bool

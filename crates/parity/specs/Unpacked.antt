@@ -1,5 +1,5 @@
 -- The parity check by logarithms of the symbols, which are taken out of the frame once.
-use Prim.Native.Nat.{ℕ, _+_}
+use Prim.Native.Nat.{ℕ, _+_, _%_}
 use mathlib.Core.Bool.{Bool, not}
 use mathlib.Core.List.{List, [], _∷_, _++_}
 use lib.Dec.{eqb}
@@ -18,9 +18,9 @@ symbolLog frame k = padLog (symbolOf frame k)
 unfoldable pub symbolLogs : List ℕ → List ℕ
 symbolLogs frame = table (symbolLog frame) 164 ++ replicate 92 0
 
--- factor times symbol at a position, by the logarithms ls of the symbols
+-- factor times symbol at a position, by the logarithms ls of the symbols; the sum of two is within a byte
 unfoldable pub termBy : List ℕ → List ℕ → List ℕ → ℕ → ℕ → ℕ
-termBy log exp ls p f = getD exp (getD log f 0 + getD ls p 0) 0
+termBy log exp ls p f = getD exp ((getD log f 0 + getD ls p 0) % 256) 0
 
 -- their sum over a group
 unfoldable pub rowBy : List ℕ → List ℕ → List ℕ → List ℕ → List ℕ → ℕ

@@ -1,7 +1,7 @@
 // The parity check of a frame (01, Parity and check bits): 81 groups of four symbols.
 ghost use mathlib.Core.Path.{_≡_};
 ghost use Prim.Native.Nat.{_+_, _*_, _/_, _%_, _<_, _^_};
-ghost use lib.ListN.{getD};
+ghost use lib.ListN.{length};
 ghost use Rattle.bits.specs.Bits.{fieldAt};
 ghost use Rattle.field64.specs.Padded.{padLog, padLogs, padPowers};
 ghost use Rattle.parity_tables.specs.Tables.{positions, factors};
@@ -72,17 +72,18 @@ fn symbol_logs(log: &[u8; 256], frame: &[u8]) -> [u8; 256]
     out
 }
 
-// Factor times symbol, by logarithms.
-fn term(log: &[u8; 256], exp: &[u8; 512], ls: &[u8; 256], p: u8, f: u8) -> u8
+// Factor times symbol, by logarithms; their sum is within a byte.
+fn term(log: &[u8; 256], exp: &[u8; 256], ls: &[u8; 256], p: u8, f: u8) -> u8
     ensures { λ r. ⌜ r ≡ termBy (now (log .entry)) (now (exp .entry)) (now (ls .entry)) p f ⌝ }
 {
-    let n = wide(log[wide(f)]) + wide(ls[wide(p)]);
-    exp[n]
+    let n = std::num::wrapping_add_u8(log[wide(f)], ls[wide(p)]);
+    exp[wide(n)]
 }
 
 // The sum of factor times symbol at the position, over a group.
-fn row(log: &[u8; 256], exp: &[u8; 512], ls: &[u8; 256], p: [u8; 4], f: [u8; 4]) -> u8
-    ensures { λ r. ⌜ r ≡ rowBy (now (log .entry)) (now (exp .entry)) (now (ls .entry)) p f ⌝ }
+fn row(log: &[u8; 256], exp: &[u8; 256], ls: &[u8; 256], p: &[u8; 4], f: &[u8; 4]) -> u8
+    requires { ⌜ (length (now p) ≡ 4) × (length (now f) ≡ 4) ⌝ }
+    ensures { λ r. ⌜ r ≡ rowBy (now (log .entry)) (now (exp .entry)) (now (ls .entry)) (now (p .entry)) (now (f .entry)) ⌝ }
 {
     let mut s: u8 = 0;
     let mut k: usize = 0;
@@ -96,7 +97,7 @@ fn row(log: &[u8; 256], exp: &[u8; 512], ls: &[u8; 256], p: [u8; 4], f: [u8; 4])
 // Group g fails: its sum is not zero.
 fn fails(
     log: &[u8; 256],
-    exp: &[u8; 512],
+    exp: &[u8; 256],
     position: &[[u8; 4]; 81],
     factor: &[[u8; 4]; 81],
     ls: &[u8; 256],
@@ -105,7 +106,7 @@ fn fails(
     requires { ⌜ (g < 81) × (now log ≡ padLogs) × (now exp ≡ padPowers) × (now position ≡ positions) × (now factor ≡ factors) ⌝ }
     ensures { λ r. ⌜ r ≡ failsBy (now (ls .entry)) g ⌝ }
 {
-    row(log, exp, ls, position[g], factor[g]) != 0
+    row(log, exp, ls, &position[g], &factor[g]) != 0
 }
 
 // The first failing group, counted from 1, and how many fail; both 0 if none fails.

@@ -16,13 +16,13 @@ abbrev μ-loop : tie.MeasureT-loop
 μ-loop log exp ls p f s₀ k₀ s k = 4 - k
 
 loop-holds : tie.Need-loop-holds Inv-loop μ-loop
-loop-holds c = (refl, search needs, search needs)
+loop-holds c = (refl, c .pre .0, c .pre .1)
 
-array-read-term : tie.Need-array-read-term Inv-loop μ-loop
-array-read-term c = search needs
+element-copy-out-term : tie.Need-element-copy-out-term Inv-loop μ-loop
+element-copy-out-term c = search needs
 
-array-read-term-2 : tie.Need-array-read-term-2 Inv-loop μ-loop
-array-read-term-2 c = search needs
+element-copy-out-term-2 : tie.Need-element-copy-out-term-2 Inv-loop μ-loop
+element-copy-out-term-2 c = search needs
 
 term-requires : tie.Need-term-requires Inv-loop μ-loop
 term-requires c κs = search needs
@@ -35,7 +35,7 @@ loop-less c = search needs
 
 loop-again : tie.Need-loop-again Inv-loop μ-loop
 loop-again c =
-    let l = c .before .before .loop in (
+    let l = c .before .before .before .before .loop in (
       rw (c .term .ensures) (row-by-step _ _ _ _ _ (l .s) (l .k) (search needs) (search needs) ∙ l .inv .0),
       l .inv .1,
       l .inv .2,
@@ -53,8 +53,8 @@ row-spec =
     Inv-loop
     μ-loop
     loop-holds
-    array-read-term
-    array-read-term-2
+    element-copy-out-term
+    element-copy-out-term-2
     term-requires
     add-k
     loop-less
