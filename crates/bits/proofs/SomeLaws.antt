@@ -11,6 +11,10 @@ use native.Mathlib.Omega.{arith}
 use Rattle.bits.specs.Some.{some}
 
 module _ {A : Type 0} where
+  pub some-step : (p : A → List A → Bool) (xs : List A) (i : ℕ) (z : A) → i < length xs → some p (drop i xs) ≡ p (getD xs i z) (drop (i + 1) xs) || some p (drop (i + 1) xs)
+  unfolding some
+  some-step p xs i z l = rw (drop-cons xs i z l, add-one i)
+
   pub some-hit : (p : A → List A → Bool) (xs : List A) (i : ℕ) (z : A) → i < length xs → p (getD xs i z) (drop (i + 1) xs) ≡ true → some p (drop i xs) ≡ true
   unfolding some
   some-hit p xs i z l e = rw (drop-cons xs i z l, ← (add-one i), e)

@@ -1,7 +1,7 @@
 // Reading: the contents of a message that begins at any bit.
 ghost use mathlib.Core.Path.{_≡_};
 ghost use Prim.Native.Nat.{_+_, _<_, _≤_};
-ghost use Rattle.contents.specs.Parts.{clockNth, clocksAt, orbitNth, orbitsAt, maskBitAt, maskBitsAt, maskPartAt, clockPartAt, orbitPartAt, maskIn, clocksIn, orbitsIn, contentsAt};
+ghost use Rattle.contents.specs.Parts.{clockNth, clocksAt, orbitNth, orbitsAt, maskBitAt, maskBitsAt, maskPartAt, clockPartAt, orbitPartAt, maskIn, clocksIn, orbitsIn, layoutAt, contentsAt};
 use crate::layout::Layout;
 use crate::layout::layout_of;
 use crate::layout::orbits_from;
@@ -189,18 +189,53 @@ fn orbits_in(s: &[u8], at: u8, l: Layout) -> OrbitPart
     }
 }
 
-// The contents of the message that begins at bit at, its check and its limits left aside.
-pub fn contents_at(s: &[u8], at: u8) -> Contents
-    ensures { λ r. ⌜ r ≡ contentsAt (now (s .entry)) at ⌝ }
+// What the message that begins at bit at carries and how wide.
+fn layout_at(s: &[u8], at: u8) -> Layout
+    ensures { λ r. ⌜ r ≡ layoutAt (now (s .entry)) at ⌝ }
 {
     let a = at as usize;
     let kind = bits::get8(s, a, 6);
     let numc = bits::get8(s, a + 6, 5);
     let numo = bits::get8(s, a + 6 + 5, 3);
-    let l = layout_of(kind, numc, numo);
-    let mask = mask_in(s, at, l);
-    let clock = clocks_in(s, at, l);
-    let orbit = orbits_in(s, at, l);
+    layout_of(kind, numc, numo)
+}
+
+// The type of the message that begins at bit at.
+pub fn kind_of(s: &[u8], at: u8) -> u8
+    ensures { λ r. ⌜ r ≡ contentsAt (now (s .entry)) at .kind ⌝ }
+{
+    bits::get8(s, at as usize, 6)
+}
+
+// Its mask part alone.
+pub fn mask_of(s: &[u8], at: u8) -> MaskPart
+    ensures { λ r. ⌜ r ≡ contentsAt (now (s .entry)) at .mask ⌝ }
+{
+    mask_in(s, at, layout_at(s, at))
+}
+
+// Its clock part alone.
+pub fn clocks_of(s: &[u8], at: u8) -> ClockPart
+    ensures { λ r. ⌜ r ≡ contentsAt (now (s .entry)) at .clock ⌝ }
+{
+    clocks_in(s, at, layout_at(s, at))
+}
+
+// Its orbit part alone.
+pub fn orbits_of(s: &[u8], at: u8) -> OrbitPart
+    ensures { λ r. ⌜ r ≡ contentsAt (now (s .entry)) at .orbit ⌝ }
+{
+    orbits_in(s, at, layout_at(s, at))
+}
+
+// The contents of the message that begins at bit at, its check and its limits left aside.
+pub fn contents_at(s: &[u8], at: u8) -> Contents
+    ensures { λ r. ⌜ r ≡ contentsAt (now (s .entry)) at ⌝ }
+{
+    let kind = kind_of(s, at);
+    let mask = mask_of(s, at);
+    let clock = clocks_of(s, at);
+    let orbit = orbits_of(s, at);
     Contents {
         kind,
         mask,

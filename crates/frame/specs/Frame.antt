@@ -59,6 +59,6 @@ readFrame f = readWith false f
 abbrev pub foreignTo : ℕ → List ℕ → Bool
 foreignTo prn f = not (eqb (prnOf f) prn)
 
--- reading for a ledger's PRN
-abbrev pub readFor : ℕ → List ℕ → Reading
-readFor prn f = readWith (foreignTo prn f) f
+-- the verdict on the frame around its message, for a ledger's PRN
+abbrev pub shellFor : ℕ → List ℕ → Verdict
+shellFor prn f = verdictFor f (shellRefusal (foreignTo prn f) f)

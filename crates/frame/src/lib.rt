@@ -1,6 +1,6 @@
 // Frames of 125 bytes, read without a ledger or for one PRN: 01, "What arrives and what is handled".
 ghost use mathlib.Core.Path.{_≡_};
-ghost use Rattle.frame.specs.Frame.{prnOf, shellRefusal, verdictFor, readFrame, readFor, readWith};
+ghost use Rattle.frame.specs.Frame.{prnOf, shellRefusal, verdictFor, readFrame, shellFor, readWith};
 use contents::parts::no_contents;
 use contents::read::contents_at;
 use message::judge::refusal_of;
@@ -62,10 +62,10 @@ pub fn read_frame(f: &[u8]) -> Reading
     read_with(f, false)
 }
 
-// A frame read for one PRN: refusals 1, 3, 4, 5 to 13.
-pub fn read_for(f: &[u8], prn: u8) -> Reading
-    ensures { λ r. ⌜ r ≡ readFor prn (now (f .entry)) ⌝ }
+// The verdict on the frame around its message, for one PRN: refusals 1, 3 to 7, or taken.
+pub fn shell_for(f: &[u8], prn: u8) -> Verdict
+    ensures { λ r. ⌜ r ≡ shellFor prn (now (f .entry)) ⌝ }
 {
     let foreign = prn_of(f) != prn;
-    read_with(f, foreign)
+    shell_verdict(f, foreign)
 }

@@ -6,19 +6,20 @@ use mathlib.Core.List.{List}
 use native.Mathlib.Decide.{ℕ-discrete}
 use native.Mathlib.Omega.{arith}
 use borrow.Author.Tests.{eq-eqb, ne-eqb}
-use Rattle.message.specs.Read.{numberOf}
+use Rattle.message.specs.Judge.{refusalOf}
+use Rattle.message.specs.Read.{numberOf, verdictOf}
 use Rattle.message.specs.declared.read.Verdict.{Verdict}
-use Rattle.message.specs.declared.read.Verdict.the-variants.{Taken}
-use Rattle.message.specs.declared.read.Reading.{Reading}
+use Rattle.message.specs.declared.read.Verdict.the-variants.{Taken, Refused}
 use Rattle.message.proofs.ReadLaws.{number-back}
-use Rattle.frame.specs.Frame.{contentsOf, foreignTo, refusalWith, verdictFor, readWith, readFor}
+use Rattle.frame.specs.Frame.{contentsOf, foreignTo, shellRefusal, refusalWith, verdictFor, shellFor}
 use Rattle.frame.proofs.FrameLaws.{leading, second}
-use Rattle.frame.proofs.VerdictLaws.{told-alone, verdict-number, frame-not-19}
-use Rattle.form.specs.Form.{orbitsAt}
+use Rattle.frame.proofs.VerdictLaws.{told-alone, verdict-number, contents-not-6, frame-not-19}
+use Rattle.form.specs.Form.{orbitsAt, putClocks, putOrbits}
 use Rattle.mask.specs.Mask.{HeldMask, maskAt}
-use Rattle.ledger.specs.Keeps.{maskRefusal, placeVerdict, refusalUnder, verdictUnder}
-use Rattle.ledger.specs.Bytes.{prnAt, takenBytes, takeRefusal, takeVerdict, takeBytes}
-use Rattle.ledger.proofs.KeepLaws.{place-own}
+use Rattle.ledger.specs.Keeps.{orbitsOf, clocksOf, maskRefusal, placeVerdict, refusalUnder, verdictUnder}
+use Rattle.ledger.specs.Bytes.{prnAt, maskBytes, takenBytes, takeRefusal, takeVerdict, takeBytes}
+use Rattle.ledger.proofs.KeepLaws.{mask-free, place-own}
+use Rattle.ledger.proofs.ViewLaws.{taken-1, taken-other}
 
 module _ (s f : List ℕ) where
   -- a refusal leaves every byte as it was
@@ -70,56 +71,79 @@ under-number m f n =
     (λ six. ap numberOf (under-frame m f n (λ e. let z : _≡_ {A = ℕ} 6 19 = sym six ∙ e in omega arith)) ∙ verdict-number f n)
     (λ other. ap numberOf (under-mask m f n other) ∙ place-number m n)
 
--- ---- the ways that taking a frame goes, by what reading it gave
-module _ (s f : List ℕ) (r : Reading) (e : r ≡ readFor (prnAt s) f) where
-  read-number : r .verdict ≡ verdictFor f (refusalWith (foreignTo (prnAt s) f) f)
-  unfolding readWith
-  read-number = ap (λ (x : Reading). x .verdict) e
+-- ---- the ways that taking a frame goes
+module _ (s f : List ℕ) where
+  shell : ℕ
+  shell = shellRefusal (foreignTo (prnAt s) f) f
 
-  number-read : numberOf (r .verdict) ≡ refusalWith (foreignTo (prnAt s) f) f
-  number-read = ap numberOf read-number ∙ verdict-number f (refusalWith (foreignTo (prnAt s) f) f)
-
-  -- read and refused
-  pub way-unread : numberOf (r .verdict) ≢ 0 → (r .verdict ≡ takeVerdict s f) × (s ≡ takeBytes s f)
-  way-unread n =
+  -- what is wrong with the frame by itself, and its verdict, is what the ledger answers
+  frame-verdict : refusalWith (foreignTo (prnAt s) f) f ≢ 0 → (verdictFor f (refusalWith (foreignTo (prnAt s) f) f) ≡ takeVerdict s f) × (s ≡ takeBytes s f)
+  frame-verdict z =
       let q = refusalWith (foreignTo (prnAt s) f) f in
-      let z : q ≢ 0 = λ a. n (number-read ∙ a) in
       let same = frame-refusal s f z in (
-        read-number ∙ sym (under-frame (maskAt s) f q (frame-not-19 (foreignTo (prnAt s) f) f)) ∙ ap (verdictUnder (maskAt s) f) (sym same),
+        sym (under-frame (maskAt s) f q (frame-not-19 (foreignTo (prnAt s) f) f)) ∙ ap (verdictUnder (maskAt s) f) (sym same),
         sym (refused-same s f (λ y. z (sym same ∙ y))),
       )
 
-  read-good : numberOf (r .verdict) ≡ 0 → (refusalWith (foreignTo (prnAt s) f) f ≡ 0) × (r .contents ≡ contentsOf f)
-  unfolding readWith
-  read-good v =
-      let z = sym number-read ∙ v in
-      (z, rw (eq-eqb (refusalWith (foreignTo (prnAt s) f) f) 0 z) at (ap (λ (x : Reading). x .contents) e))
+  -- the frame around its message is refused
+  pub way-shut : (v : Verdict) → v ≡ shellFor (prnAt s) f → numberOf v ≢ 0 → (v ≡ takeVerdict s f) × (s ≡ takeBytes s f)
+  unfolding refusalWith shell
+  way-shut v e n =
+      let some : shell ≢ 0 = λ a. n (ap numberOf e ∙ verdict-number f shell ∙ a) in
+      let same = leading shell (refusalOf (contentsOf f)) some in
+      let w = frame-verdict (λ y. some (sym same ∙ y)) in
+      (e ∙ ap (verdictFor f) (sym same) ∙ w .0, w .1)
 
-  module _ (v : numberOf (r .verdict) ≡ 0) (p : Verdict) (q : p ≡ placeVerdict (maskAt s) (maskRefusal (maskAt s) (r .contents))) where
-    number-placed : numberOf p ≡ maskRefusal (maskAt s) (r .contents)
-    number-placed = ap numberOf q ∙ place-number (maskAt s) (maskRefusal (maskAt s) (r .contents))
+  -- it is not
+  pub way-open : (v : Verdict) → v ≡ shellFor (prnAt s) f → numberOf v ≡ 0 → shellRefusal (foreignTo (prnAt s) f) f ≡ 0
+  way-open v e n = sym (verdict-number f (shellRefusal (foreignTo (prnAt s) f) f)) ∙ ap numberOf (sym e) ∙ n
 
-    number-good : takeRefusal s f ≡ maskRefusal (maskAt s) (r .contents)
-    number-good = let g = read-good v in clock-refusal s f (g .0) ∙ ap (maskRefusal (maskAt s)) (sym (g .1))
+  module _ (sound : shellRefusal (foreignTo (prnAt s) f) f ≡ 0) (n : ℕ) (judged : n ≡ refusalOf (contentsOf f)) where
+    frame-judged : refusalWith (foreignTo (prnAt s) f) f ≡ n
+    unfolding refusalWith
+    frame-judged = second (shellRefusal (foreignTo (prnAt s) f) f) (refusalOf (contentsOf f)) sound ∙ sym judged
 
-    told : p ≡ takeVerdict s f
-    told =
-        q
-        ∙ sym (under-mask (maskAt s) f (maskRefusal (maskAt s) (r .contents)) (place-own (maskAt s) (r .contents .kind) (r .contents .clock)))
-        ∙ ap (verdictUnder (maskAt s) f) (sym number-good)
+    -- its contents are refused
+    pub way-judged : n ≢ 0 → (Refused n ≡ takeVerdict s f) × (s ≡ takeBytes s f)
+    way-judged z =
+        let w = frame-verdict (λ y. z (sym frame-judged ∙ y)) in
+        let alone : verdictOf n ≡ Refused n = rw (ne-eqb n 0 z) in
+        (sym alone ∙ sym (told-alone f n (λ six. contents-not-6 (contentsOf f) (sym judged ∙ six))) ∙ ap (verdictFor f) (sym frame-judged) ∙ w .0, w .1)
 
-    -- read, and its clock part refused
-    pub way-refused : numberOf p ≢ 0 → (p ≡ takeVerdict s f) × (s ≡ takeBytes s f)
-    way-refused z = (told, sym (refused-same s f (λ y. z (number-placed ∙ sym number-good ∙ y))))
+    -- they are not: what the mask says is what the ledger answers
+    good : n ≡ 0 → takeRefusal s f ≡ maskRefusal (maskAt s) (contentsOf f)
+    good z = clock-refusal s f (frame-judged ∙ z)
 
-    -- its clock part is not refused
-    pub way-placed : numberOf p ≡ 0 → maskRefusal (maskAt s) (r .contents) ≡ 0
-    way-placed z = sym number-placed ∙ z
+    -- a type 1 is taken
+    pub way-taken-1 : n ≡ 0 → contentsOf f .kind ≡ 1 → (t : List ℕ) → t ≡ maskBytes s (contentsOf f .mask) → (Taken ≡ takeVerdict s f) × (t ≡ takeBytes s f)
+    unfolding placeVerdict verdictUnder
+    way-taken-1 z k t b =
+        let none = good z ∙ mask-free (contentsOf f) k (maskAt s) in
+        (ap (verdictUnder (maskAt s) f) (sym none), b ∙ sym (taken-1 s (contentsOf f) k) ∙ sym (taken-whole s f none))
 
-    -- taken
-    pub way-taken : numberOf p ≡ 0 → (t : List ℕ) → t ≡ takenBytes s (r .contents) → (Taken ≡ takeVerdict s f) × (t ≡ takeBytes s f)
-    unfolding placeVerdict
-    way-taken z t b =
-        let n = number-good ∙ way-placed z in
-        let taken : p ≡ Taken = q ∙ ap (placeVerdict (maskAt s)) (way-placed z) in
-        (sym taken ∙ told, b ∙ ap (takenBytes s) (read-good v .1) ∙ sym (taken-whole s f n))
+    module _ (z : n ≡ 0) (p : Verdict) (q : p ≡ placeVerdict (maskAt s) (maskRefusal (maskAt s) (contentsOf f))) where
+      number-placed : numberOf p ≡ maskRefusal (maskAt s) (contentsOf f)
+      number-placed = ap numberOf q ∙ place-number (maskAt s) (maskRefusal (maskAt s) (contentsOf f))
+
+      told : p ≡ takeVerdict s f
+      told =
+          q
+          ∙ sym (under-mask (maskAt s) f (maskRefusal (maskAt s) (contentsOf f)) (place-own (maskAt s) (contentsOf f .kind) (contentsOf f .clock)))
+          ∙ ap (verdictUnder (maskAt s) f) (sym (good z))
+
+      -- its clock part is refused
+      pub way-refused : numberOf p ≢ 0 → (p ≡ takeVerdict s f) × (s ≡ takeBytes s f)
+      way-refused y = (told, sym (refused-same s f (λ x. y (number-placed ∙ sym (good z) ∙ x))))
+
+      -- its clock part is not refused
+      pub way-placed : numberOf p ≡ 0 → maskRefusal (maskAt s) (contentsOf f) ≡ 0
+      way-placed y = sym number-placed ∙ y
+
+      -- taken
+      pub way-taken : numberOf p ≡ 0 → contentsOf f .kind ≢ 1 → (t : List ℕ) →
+          t ≡ putOrbits (putClocks s (clocksOf (maskAt s) (contentsOf f .kind) (contentsOf f .clock))) (orbitsOf (contentsOf f .kind) (contentsOf f .orbit)) →
+          (Taken ≡ takeVerdict s f) × (t ≡ takeBytes s f)
+      unfolding placeVerdict
+      way-taken y k t b =
+          let taken : p ≡ Taken = q ∙ ap (placeVerdict (maskAt s)) (way-placed y) in
+          (sym taken ∙ told, b ∙ sym (taken-other s (contentsOf f) k) ∙ sym (taken-whole s f (good z ∙ way-placed y)))

@@ -1,19 +1,26 @@
 // Taking one frame, whole or not at all.
 ghost use mathlib.Core.Path.{_≡_};
 ghost use mathlib.Core.Bool.{true};
+ghost use mathlib.Core.Logic.{_≢_};
 ghost use Prim.Native.Nat.{_≤_};
 ghost use Rattle.bits.specs.Pick.{pick};
+ghost use Rattle.frame.specs.Frame.{contentsOf, foreignTo, shellRefusal};
 ghost use Rattle.form.specs.Form.{putClocks, putOrbits, droppedClocks};
 ghost use Rattle.mask.specs.Mask.{maskAt, heldMask, sameMask};
 ghost use Rattle.ledger.specs.Keeps.{heldOrbit, heldClock, orbitsOf, clocksOf, needsMask, firstPlace, placeToCheck, placeNumber, placeRefusal, placeVerdict};
-ghost use Rattle.ledger.specs.Bytes.{prnAt, maskBytes, takenBytes, takeVerdict, takeBytes};
+ghost use Rattle.ledger.specs.Bytes.{prnAt, maskBytes, takeVerdict, takeBytes};
 use crate::Ledger;
 use contents::parts::ClockPart;
-use contents::parts::Contents;
 use contents::parts::MaskPart;
 use contents::parts::OrbitPart;
+use contents::read::clocks_of;
+use contents::read::kind_of;
+use contents::read::mask_of;
+use contents::read::orbits_of;
 use form::HeldClock;
 use form::HeldOrbit;
+use message::judge::refusal_of_mask;
+use message::judge::refusal_of_parts;
 use message::read::Verdict;
 use message::read::number_of;
 use message::read::verdict_of;
@@ -217,21 +224,41 @@ fn take_mask(t: &mut [u8], m: MaskPart)
     mask::put_mask(t, m);
 }
 
-// Contents that no refusal applies to are taken.
-fn take_contents(t: &mut [u8], c: Contents)
-    requires { ⌜ placeRefusal (maskAt (now t)) (c .kind) (c .clock) ≡ 0 ⌝ }
-    ensures { λ r. ⌜ now (t .exit) ≡ takenBytes (now (t .entry)) c ⌝ }
+// A type 1 in a good frame is taken, or refused.
+fn take_type_1(t: &mut [u8], frame: &[u8]) -> Verdict
+    requires { ⌜ (shellRefusal (foreignTo (prnAt (now t)) (now frame)) (now frame) ≡ 0) × (contentsOf (now frame) .kind ≡ 1) ⌝ }
+    ensures verdict { λ r. ⌜ r ≡ takeVerdict (now (t .entry)) (now (frame .entry)) ⌝ }
+    ensures bytes { λ r. ⌜ now (t .exit) ≡ takeBytes (now (t .entry)) (now (frame .entry)) ⌝ }
 {
-    let kind = c.kind;
-    if kind == 1 {
-        let m = c.mask;
-        take_mask(t, m);
-        return;
+    let m = mask_of(frame, 28);
+    let n = refusal_of_mask(m);
+    if n != 0 {
+        return Verdict::Refused(n);
     }
-    let k = c.clock;
-    let o = c.orbit;
+    take_mask(t, m);
+    Verdict::Taken
+}
+
+// A message of another type in a good frame is taken, or refused.
+fn take_parts(t: &mut [u8], frame: &[u8]) -> Verdict
+    requires { ⌜ (shellRefusal (foreignTo (prnAt (now t)) (now frame)) (now frame) ≡ 0) × (contentsOf (now frame) .kind ≢ 1) ⌝ }
+    ensures verdict { λ r. ⌜ r ≡ takeVerdict (now (t .entry)) (now (frame .entry)) ⌝ }
+    ensures bytes { λ r. ⌜ now (t .exit) ≡ takeBytes (now (t .entry)) (now (frame .entry)) ⌝ }
+{
+    let kind = kind_of(frame, 28);
+    let k = clocks_of(frame, 28);
+    let o = orbits_of(frame, 28);
+    let n = refusal_of_parts(kind, k, o);
+    if n != 0 {
+        return Verdict::Refused(n);
+    }
+    let placed = place_verdict(t, kind, k);
+    if number_of(placed) != 0 {
+        return placed;
+    }
     take_clocks(t, kind, k);
     take_orbits(t, kind, o);
+    Verdict::Taken
 }
 
 // A frame is taken into the bytes of a ledger, or refused.
@@ -239,19 +266,14 @@ pub fn take_in(t: &mut [u8], frame: &[u8]) -> Verdict
     ensures verdict { λ r. ⌜ r ≡ takeVerdict (now (t .entry)) (now (frame .entry)) ⌝ }
     ensures bytes { λ r. ⌜ now (t .exit) ≡ takeBytes (now (t .entry)) (now (frame .entry)) ⌝ }
 {
-    let r = frame::read_for(frame, ledger_prn(t));
-    let read = r.verdict;
-    if number_of(read) != 0 {
-        return read;
+    let shell = frame::shell_for(frame, ledger_prn(t));
+    if number_of(shell) != 0 {
+        return shell;
     }
-    let c = r.contents;
-    let k = c.clock;
-    let placed = place_verdict(t, c.kind, k);
-    if number_of(placed) != 0 {
-        return placed;
+    if kind_of(frame, 28) == 1 {
+        return take_type_1(t, frame);
     }
-    take_contents(t, c);
-    Verdict::Taken
+    take_parts(t, frame)
 }
 
 // A frame is taken into a ledger: refusals 1, 3 to 15 and 19, lowest first. On a refusal every byte is as it was.

@@ -11,6 +11,8 @@ use Rattle.records.specs.Clock.{blankClock}
 use Rattle.records.specs.declared.orbit.Orbit.{Orbit}
 use Rattle.records.specs.declared.clock.Clock.{Clock}
 use Rattle.contents.specs.Layout.{layoutOf, endOf}
+use Rattle.contents.specs.Parts.{noMask, noClocks, noOrbits}
+use Rattle.contents.specs.declared.parts.MaskPart.{MaskPart}
 use Rattle.contents.specs.declared.parts.ClockPart.{ClockPart}
 use Rattle.contents.specs.declared.parts.OrbitPart.{OrbitPart}
 use Rattle.contents.specs.declared.parts.Contents.{Contents}
@@ -22,6 +24,10 @@ clockSlots ks = table (λ (i : ℕ). getD ks i blankClock .slot) 23
 -- the slots of the orbit records
 unfoldable pub orbitSlots : List Orbit → List ℕ
 orbitSlots os = table (λ (i : ℕ). getD os i blankOrbit .slot) 6
+
+-- a slot that is not 0
+abbrev pub isNamed : ℕ → List ℕ → Bool
+isNamed x rest = not (eqb x 0)
 
 -- 01, 8: types 1, 2, 4, 6, 7 and 63 are read and written
 abbrev pub isKind : ℕ → Bool
@@ -67,14 +73,26 @@ isSet b rest = b
 abbrev pub reservedBit : List Bool → Bool
 reservedBit bs = some isSet (drop 174 bs)
 
--- 01: the lowest of 8 to 13 that applies, 0 if none does
-unfoldable pub refusalOf : Contents → ℕ
-refusalOf c =
+-- 01: the lowest of 8 to 13 that applies to a type, the epoch of a mask and whether it has a reserved bit, a clock part and an orbit part; 0 if none does
+abbrev pub refusalBy : ℕ → ℕ → Bool → ClockPart → OrbitPart → ℕ
+refusalBy kind epoch reserved k o =
     first
-    ((8, not (isKind (c .kind)))
-    ∷ (9, tooLong (c .kind) (c .clock .count) (c .orbit .count))
-    ∷ (10, late (c .mask .epoch) (c .clock .epoch) (c .orbit .epoch))
-    ∷ (11, highSlot (c .kind) (c .clock) (c .orbit))
-    ∷ (12, twice (c .clock) (c .orbit))
-    ∷ (13, reservedBit (c .mask .bits))
+    ((8, not (isKind kind))
+    ∷ (9, tooLong kind (k .count) (o .count))
+    ∷ (10, late epoch (k .epoch) (o .epoch))
+    ∷ (11, highSlot kind k o)
+    ∷ (12, twice k o)
+    ∷ (13, reserved)
     ∷ [])
+
+-- 01: of contents
+unfoldable pub refusalOf : Contents → ℕ
+refusalOf c = refusalBy (c .kind) (c .mask .epoch) (reservedBit (c .mask .bits)) (c .clock) (c .orbit)
+
+-- 01: of a type 1, which has a mask and no other part
+unfoldable pub maskRefusalOf : MaskPart → ℕ
+maskRefusalOf m = refusalOf (record { kind = 1; mask = m; clock = noClocks; orbit = noOrbits })
+
+-- 01: of any other type, which has no mask
+unfoldable pub partsRefusalOf : ℕ → ClockPart → OrbitPart → ℕ
+partsRefusalOf kind k o = refusalOf (record { kind = kind; mask = noMask; clock = k; orbit = o })

@@ -3,11 +3,12 @@ ghost use mathlib.Core.Path.{_≡_};
 ghost use Prim.Native.Nat.{_+_, _<_};
 ghost use lib.ListN.{getD, drop, length};
 ghost use Rattle.bits.specs.Some.{some};
-ghost use Rattle.message.specs.Judge.{isHigh, isSame, isAgain, clockSlots, orbitSlots, isKind, late, badStart, highSlot, twice, reservedBit, tooLong, refusalOf};
+ghost use Rattle.message.specs.Judge.{isHigh, isSame, isAgain, clockSlots, orbitSlots, isKind, late, badStart, highSlot, twice, reservedBit, tooLong, isNamed, refusalBy, refusalOf, maskRefusalOf, partsRefusalOf};
 use contents::layout::end_of;
 use contents::layout::layout_of;
 use contents::parts::ClockPart;
 use contents::parts::Contents;
+use contents::parts::MaskPart;
 use contents::parts::OrbitPart;
 use records::clock::Clock;
 use records::orbit::Orbit;
@@ -136,15 +137,50 @@ fn too_long(kind: u8, numc: u8, numo: u8) -> bool
     end_of(layout_of(kind, numc, numo)) > 462
 }
 
+// Whether some clock record names a slot.
+fn any_named(ks: [Clock; 23]) -> bool
+    ensures { λ r. ⌜ r ≡ some isNamed (clockSlots ks) ⌝ }
+{
+    let mut seen = false;
+    let mut i: usize = 23;
+    while 0 < i {
+        i -= 1;
+        let k = ks[i];
+        seen = (k.slot != 0) | seen;
+    }
+    seen
+}
+
+// Whether some clock record's slot is above 255.
+fn clocks_high(ks: [Clock; 23]) -> bool
+    ensures { λ r. ⌜ r ≡ some isHigh (clockSlots ks) ⌝ }
+{
+    if !any_named(ks) {
+        return false;
+    }
+    let a = clock_slots(ks);
+    any_high(&a)
+}
+
+// Whether one slot stands twice among the clock records.
+fn clocks_twice(ks: [Clock; 23]) -> bool
+    ensures { λ r. ⌜ r ≡ some isAgain (clockSlots ks) ⌝ }
+{
+    if !any_named(ks) {
+        return false;
+    }
+    let a = clock_slots(ks);
+    any_twice(&a)
+}
+
 // Whether some slot is above 255, or Slot_S is none.
 fn high_slot(kind: u8, k: ClockPart, o: OrbitPart) -> bool
     ensures { λ r. ⌜ r ≡ highSlot kind k o ⌝ }
 {
     let ks = k.clocks;
     let os = o.orbits;
-    let a = clock_slots(ks);
     let b = orbit_slots(os);
-    any_high(&a) | any_high(&b) | bad_start(kind, k.count, k.start)
+    clocks_high(ks) | any_high(&b) | bad_start(kind, k.count, k.start)
 }
 
 // Whether one slot stands twice among the clock records or among the orbit records.
@@ -153,9 +189,33 @@ fn slot_twice(k: ClockPart, o: OrbitPart) -> bool
 {
     let ks = k.clocks;
     let os = o.orbits;
-    let a = clock_slots(ks);
     let b = orbit_slots(os);
-    any_twice(&a) | any_twice(&b)
+    clocks_twice(ks) | any_twice(&b)
+}
+
+// The lowest number of 8 to 13 that applies, by the mask's epoch and whether it has a reserved bit, and the other parts; 0 if none does.
+fn refusal_by(kind: u8, epoch: u32, reserved: bool, k: ClockPart, o: OrbitPart) -> u8
+    ensures { λ r. ⌜ r ≡ refusalBy kind epoch reserved k o ⌝ }
+{
+    if !is_kind(kind) {
+        return 8;
+    }
+    if too_long(kind, k.count, o.count) {
+        return 9;
+    }
+    if is_late(epoch, k.epoch, o.epoch) {
+        return 10;
+    }
+    if high_slot(kind, k, o) {
+        return 11;
+    }
+    if slot_twice(k, o) {
+        return 12;
+    }
+    if reserved {
+        return 13;
+    }
+    0
 }
 
 // The lowest number of 8 to 13 that applies to contents; 0 if none does.
@@ -163,26 +223,29 @@ pub fn refusal_of(c: Contents) -> u8
     ensures { λ r. ⌜ r ≡ refusalOf c ⌝ }
 {
     let m = c.mask;
+    let bits = m.bits;
     let k = c.clock;
     let o = c.orbit;
-    if !is_kind(c.kind) {
-        return 8;
-    }
-    if too_long(c.kind, k.count, o.count) {
-        return 9;
-    }
-    if is_late(m.epoch, k.epoch, o.epoch) {
+    refusal_by(c.kind, m.epoch, reserved_bit(bits), k, o)
+}
+
+// The same of a type 1 by its mask alone.
+pub fn refusal_of_mask(m: MaskPart) -> u8
+    ensures { λ r. ⌜ r ≡ maskRefusalOf m ⌝ }
+{
+    if m.epoch > 86399 {
         return 10;
-    }
-    if high_slot(c.kind, k, o) {
-        return 11;
-    }
-    if slot_twice(k, o) {
-        return 12;
     }
     let bits = m.bits;
     if reserved_bit(bits) {
         return 13;
     }
     0
+}
+
+// The same of another type by its clock part and its orbit part.
+pub fn refusal_of_parts(kind: u8, k: ClockPart, o: OrbitPart) -> u8
+    ensures { λ r. ⌜ r ≡ partsRefusalOf kind k o ⌝ }
+{
+    refusal_by(kind, 0, false, k, o)
 }

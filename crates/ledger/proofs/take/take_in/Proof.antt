@@ -1,16 +1,16 @@
 use borrow.Author.Needs.{needs}
 use Prim.Native.Nat.{ℕ}
 use mathlib.Core.Path.{sym, ap, _∙_}
-use Rattle.frame.specs.Frame.{readFor}
-use Rattle.ledger.proofs.RefusalLaws.{way-unread, way-refused, way-placed, way-taken}
+use Rattle.frame.specs.Frame.{shellFor}
+use Rattle.ledger.proofs.RefusalLaws.{way-shut, way-open}
 use Rattle.ledger.proofs.take.take_in.Statement.{statement}
 use Rattle.ledger.proofs.take.take_in.Tie as tie
 
 ledger-prn-requires : tie.Need-ledger-prn-requires
 ledger-prn-requires c κs = search needs
 
-read-for-requires : tie.Need-read-for-requires
-read-for-requires c κs = search needs
+shell-for-requires : tie.Need-shell-for-requires
+shell-for-requires c κs = search needs
 
 number-of-requires : tie.Need-number-of-requires
 number-of-requires c κs = search needs
@@ -20,68 +20,59 @@ same-length c = search needs
 
 returns : tie.Need-returns
 returns c =
-    let c1 = c .before .before in
-    let a = c1 .before .before .before .before .before .args in
-    let read = c1 .read-for .ensures ∙ ap (λ (p : ℕ). readFor p (a .frame .now)) (c1 .before .ledger-prn .ensures) in
-    way-unread (a .t .now) (a .frame .now) (c1 .read-for .result) read (λ z. c .if1 .taken (c .before .number-of .ensures ∙ z))
+    let at = c .before .before in
+    let start = at .before .before .before .before .before in
+    let s = start .args .t .now in
+    let f = start .args .frame .now in
+    let shell = at .shell-for .ensures ∙ ap (λ (p : ℕ). shellFor p f) (at .before .ledger-prn .ensures) in
+    way-shut s f (at .shell-for .result) shell (λ z. c .if1 .taken (c .before .number-of .ensures ∙ z))
 
-place-verdict-requires : tie.Need-place-verdict-requires
-place-verdict-requires c κs = search needs
+kind-of-requires : tie.Need-kind-of-requires
+kind-of-requires c κs = search needs
 
-number-of-requires-2 : tie.Need-number-of-requires-2
-number-of-requires-2 c κs = search needs
+take-type-1-requires : tie.Need-take-type-1-requires
+take-type-1-requires c κs =
+    let at = c .before .before .before .before .before in
+    let start = at .before .before .before .before .before in
+    let s = start .args .t .now in
+    let f = start .args .frame .now in
+    let shell = at .shell-for .ensures ∙ ap (λ (p : ℕ). shellFor p f) (at .before .ledger-prn .ensures) in
+    (way-open s f (at .shell-for .result) shell (sym (c .before .before .before .before .number-of .ensures) ∙ c .before .before .before .if1 .left), sym (c .before .before .kind-of .ensures) ∙ c .before .if2 .taken)
 
 same-length-2 : tie.Need-same-length-2
 same-length-2 c = search needs
 
 returns-2 : tie.Need-returns-2
-returns-2 c =
-    let placed = c .before .before in
-    let told = placed .before .before .before .before in
-    let c1 = told .before .before in
-    let a = c1 .before .before .before .before .before .args in
-    let read = c1 .read-for .ensures ∙ ap (λ (p : ℕ). readFor p (a .frame .now)) (c1 .before .ledger-prn .ensures) in
-    let good = sym (told .before .number-of .ensures) ∙ told .if1 .left in
-    way-refused (a .t .now) (a .frame .now) (c1 .read-for .result) read good (placed .place-verdict .result) (placed .place-verdict .ensures) (λ z. c .if2 .taken (c .before .number-of2 .ensures ∙ z))
+returns-2 c = search needs
 
-take-contents-requires : tie.Need-take-contents-requires
-take-contents-requires c κs =
-    let free = c .before in
-    let placed = free .before .before in
-    let told = placed .before .before .before .before in
-    let c1 = told .before .before in
-    let a = c1 .before .before .before .before .before .args in
-    let read = c1 .read-for .ensures ∙ ap (λ (p : ℕ). readFor p (a .frame .now)) (c1 .before .ledger-prn .ensures) in
-    let good = sym (told .before .number-of .ensures) ∙ told .if1 .left in
-    way-placed (a .t .now) (a .frame .now) (c1 .read-for .result) read good (placed .place-verdict .result) (placed .place-verdict .ensures) (sym (free .before .number-of2 .ensures) ∙ free .if2 .left)
+take-parts-requires : tie.Need-take-parts-requires
+take-parts-requires c κs =
+    let at = c .before .before .before .before .before in
+    let start = at .before .before .before .before .before in
+    let s = start .args .t .now in
+    let f = start .args .frame .now in
+    let shell = at .shell-for .ensures ∙ ap (λ (p : ℕ). shellFor p f) (at .before .ledger-prn .ensures) in
+    (way-open s f (at .shell-for .result) shell (sym (c .before .before .before .before .number-of .ensures) ∙ c .before .before .before .if1 .left), λ z. c .before .if2 .left (c .before .before .kind-of .ensures ∙ z))
 
 same-length-3 : tie.Need-same-length-3
 same-length-3 c = search needs
 
 returns-3 : tie.Need-returns-3
-returns-3 c =
-    let free = c .before .before .before .before in
-    let placed = free .before .before in
-    let told = placed .before .before .before .before in
-    let c1 = told .before .before in
-    let a = c1 .before .before .before .before .before .args in
-    let read = c1 .read-for .ensures ∙ ap (λ (p : ℕ). readFor p (a .frame .now)) (c1 .before .ledger-prn .ensures) in
-    let good = sym (told .before .number-of .ensures) ∙ told .if1 .left in
-    way-taken (a .t .now) (a .frame .now) (c1 .read-for .result) read good (placed .place-verdict .result) (placed .place-verdict .ensures) (sym (free .before .number-of2 .ensures) ∙ free .if2 .left) _ (c .before .before .take-contents .ensures)
+returns-3 c = search needs
 
 pub take-in-spec : {M : Type 1} → statement M
 take-in-spec =
     tie.close
     (tie.spec
     ledger-prn-requires
-    read-for-requires
+    shell-for-requires
     number-of-requires
     same-length
     returns
-    place-verdict-requires
-    number-of-requires-2
+    kind-of-requires
+    take-type-1-requires
     same-length-2
     returns-2
-    take-contents-requires
+    take-parts-requires
     same-length-3
     returns-3)
