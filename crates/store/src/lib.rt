@@ -1,18 +1,48 @@
 // What is kept by slot and looked back for: its definitions and laws, and the bytes of small numbers in lent room.
 ghost use mathlib.Core.Path.{_≡_};
+ghost use Prim.Native.Nat.{_-_, _≤_};
+ghost use lib.ListN.{length};
 ghost use Rattle.bits.specs.Bytes.{storeAt};
 ghost use Rattle.store.specs.Digits.{flagOf, zigOf, zagOf, pairOf, quadOf};
+
+// The bytes of r are stored from at on, where there is room for all of them.
+fn store_whole(t: &mut [u8], at: usize, r: &[u8])
+    requires { ⌜ length (now r) ≤ length (now t) - at ⌝ }
+    ensures { λ r₀. ⌜ now (t .exit) ≡ storeAt (now (t .entry)) at (now (r .entry)) ⌝ }
+{
+    let mut i: usize = 0;
+    while i < r.len() {
+        t[at + i] = r[i];
+        i += 1;
+    }
+}
+
+// The first n bytes of r are stored from at on, where there is room for no more. The very first comes last: two loops that both end in a copy would
+// be compiled as one copy of an unknown length, and a caller mostly knows the length of r.
+fn store_part(t: &mut [u8], at: usize, r: &[u8], n: usize)
+    requires { ⌜ (n ≤ length (now r)) × (n ≡ length (now t) - at) ⌝ }
+    ensures { λ r₀. ⌜ now (t .exit) ≡ storeAt (now (t .entry)) at (now (r .entry)) ⌝ }
+{
+    if n == 0 {
+        return;
+    }
+    let mut k: usize = 1;
+    while k < n {
+        t[at + k] = r[k];
+        k += 1;
+    }
+    t[at] = r[0];
+}
 
 // The bytes of r are stored from at on; those past the end of t are lost.
 pub fn store(t: &mut [u8], at: usize, r: &[u8])
     ensures { λ r₀. ⌜ now (t .exit) ≡ storeAt (now (t .entry)) at (now (r .entry)) ⌝ }
 {
     let room = if at < t.len() { t.len() - at } else { 0 };
-    let n = if r.len() < room { r.len() } else { room };
-    let mut i: usize = 0;
-    while i < n {
-        t[at + i] = r[i];
-        i += 1;
+    if r.len() <= room {
+        store_whole(t, at, r);
+    } else {
+        store_part(t, at, r, room);
     }
 }
 
