@@ -21,12 +21,12 @@ fn signed(x: u64, half: u64) -> i16
 pub fn get13(s: &[u8], at: usize) -> i16
     ensures { λ r. ⌜ r ≡ signedAt 13 (now (s .entry)) at ⌝ }
 {
-    signed(bits::get(s, at, 13), 4096)
+    signed(bits::get16(s, at, 13) as u64, 4096)
 }
 
 // A field of 15 bits in two's complement.
 pub fn get15(s: &[u8], at: usize) -> i16
     ensures { λ r. ⌜ r ≡ signedAt 15 (now (s .entry)) at ⌝ }
 {
-    signed(bits::get(s, at, 15), 16384)
+    signed(bits::get16(s, at, 15) as u64, 16384)
 }
