@@ -81,12 +81,12 @@ fn four(s: &[u8], j: usize) -> u64
     joined(s[j], s[j + 1], s[j + 2], s[j + 3])
 }
 
-// The n bits after the first r of the 64 in w.
-fn part(w: u64, r: usize, n: usize) -> u64
-    requires { ⌜ (0 < n) × (n < 57) × (r < 8) ⌝ }
-    ensures { λ y. ⌜ y ≡ w / 2 ^ (64 - r - n) % 2 ^ n ⌝ }
+// The n bits after the first r of the low m bits of w.
+fn part(w: u64, m: usize, r: usize, n: usize) -> u64
+    requires { ⌜ (r + n ≤ m) × (m < r + n + 64) × (n < 57) ⌝ }
+    ensures { λ y. ⌜ y ≡ w / 2 ^ (m - r - n) % 2 ^ n ⌝ }
 {
-    let h = 64 - r - n;
+    let h = m - r - n;
     let p = 1u64 << n;
     (w >> h) % p
 }
@@ -95,49 +95,29 @@ fn part(w: u64, r: usize, n: usize) -> u64
 pub fn get(s: &[u8], at: usize, n: usize) -> u64
     ensures { λ r. ⌜ r ≡ gotAt 64 (now (s .entry)) at n ⌝ }
 {
-    if n == 0 {
-        return 0;
-    }
-    if 56 < n {
-        return by_bytes(s, at, n);
-    }
     let j = at / 8;
-    if s.len() < j + 8 {
-        return by_bytes(s, at, n);
+    if 0 < n {
+        if n < 57 {
+            if j + 8 <= s.len() {
+                let high = four(s, j);
+                let low = four(s, j + 4);
+                return part(high * 0x100000000 + low, 64, at % 8, n);
+            }
+        }
     }
-    let high = four(s, j);
-    let low = four(s, j + 4);
-    part(high * 0x100000000 + low, at % 8, n)
+    by_bytes(s, at, n)
 }
 
-// The 24 bits from byte j on.
-fn three(s: &[u8], j: usize) -> u64
-    requires { ⌜ (j + 2 < length (now s)) × (j < 2 ^ 62) ⌝ }
-    ensures { λ r. ⌜ r ≡ fieldAt (now (s .entry)) (8 * j) 24 ⌝ }
-{
-    joined(0, s[j], s[j + 1], s[j + 2])
-}
-
-// The n bits after the first r of the 24 in w.
-fn part24(w: u64, r: usize, n: usize) -> u64
-    requires { ⌜ (n ≤ 16) × (r < 8) ⌝ }
-    ensures { λ y. ⌜ y ≡ w / 2 ^ (24 - r - n) % 2 ^ n ⌝ }
-{
-    let h = 24 - r - n;
-    let p = 1u64 << n;
-    (w >> h) % p
-}
-
-// The field of n bits from bit at on, at most 16: out of three bytes at once where there are as many.
+// The field of n bits from bit at on, at most 25: out of four bytes at once where there are as many.
 fn get_short(s: &[u8], at: usize, n: usize) -> u64
-    requires { ⌜ n ≤ 16 ⌝ }
+    requires { ⌜ n ≤ 25 ⌝ }
     ensures { λ r. ⌜ r ≡ gotAt 64 (now (s .entry)) at n ⌝ }
 {
     let j = at / 8;
-    if s.len() < j + 3 {
-        return get(s, at, n);
+    if s.len() < j + 4 {
+        return by_bytes(s, at, n);
     }
-    part24(three(s, j), at % 8, n)
+    part(four(s, j), 32, at % 8, n)
 }
 
 // The field of n bits from bit at on; more than 8 bits: 0.
@@ -166,6 +146,9 @@ pub fn get32(s: &[u8], at: usize, n: usize) -> u32
 {
     if n > 32 {
         return 0;
+    }
+    if n <= 25 {
+        return get_short(s, at, n) as u32;
     }
     get(s, at, n) as u32
 }

@@ -1,8 +1,10 @@
 // The clock record: 18 bits, or 27 with its slot.
 ghost use mathlib.Core.Path.{_≡_};
 ghost use mathlib.Core.Bool.{true, false};
-ghost use Rattle.records.specs.Clock.{blankClock, clockAt};
-use crate::signed::get15;
+ghost use mathlib.Core.List.{[], _∷_};
+ghost use Rattle.bits.specs.Bits.{fieldsAt};
+ghost use Rattle.records.specs.Clock.{blankClock, clockOf, clockAt};
+use crate::signed::signed;
 
 // C0 is raw. In a record with no slot of its own, slot is 0.
 pub struct Clock {
@@ -22,6 +24,16 @@ pub fn blank_clock() -> Clock
     }
 }
 
+// The clock record of a slot, IOD Corr and C0 from bit at on, which are read as one field of 18 bits.
+fn clock_of(s: &[u8], at: usize, slot: u16) -> Clock
+    ensures { λ r. ⌜ r ≡ clockOf false (slot ∷ fieldsAt (now (s .entry)) at (3 ∷ 15 ∷ [])) ⌝ }
+{
+    let x = bits::get32(s, at, 18);
+    let corr = (x / 0x8000) as u8;
+    let c0 = signed((x % 0x8000) as u64, 0x4000);
+    Clock { slot, corr, c0 }
+}
+
 // The clock record from bit at on that begins with its slot; blank where that is 0.
 fn slotted_clock(s: &[u8], at: u32) -> Clock
     ensures { λ r. ⌜ r ≡ clockAt true (now (s .entry)) at ⌝ }
@@ -32,21 +44,14 @@ fn slotted_clock(s: &[u8], at: u32) -> Clock
         return blank_clock();
     }
     let a1 = a0 + 9;
-    let corr = bits::get8(s, a1, 3);
-    let a2 = a1 + 3;
-    let c0 = get15(s, a2);
-    Clock { slot, corr, c0 }
+    clock_of(s, a1, slot)
 }
 
 // The clock record from bit at on that has no slot.
 fn bare_clock(s: &[u8], at: u32) -> Clock
     ensures { λ r. ⌜ r ≡ clockAt false (now (s .entry)) at ⌝ }
 {
-    let a0 = at as usize;
-    let corr = bits::get8(s, a0, 3);
-    let a1 = a0 + 3;
-    let c0 = get15(s, a1);
-    Clock { slot: 0, corr, c0 }
+    clock_of(s, at as usize, 0)
 }
 
 // The clock record from bit at on, with or without its slot.

@@ -5,7 +5,7 @@ ghost use Rattle.bits.specs.Bits.{fieldAt};
 ghost use Rattle.records.specs.Signed.{signedHalf, signedAt, rawHalf};
 
 // The number that the bits of x say, where the highest weighs half.
-fn signed(x: u64, half: u64) -> i16
+pub(crate) fn signed(x: u64, half: u64) -> i16
     requires { ⌜ (half < 16385) × (x < 2 * half) ⌝ }
     ensures { λ r. ⌜ r ≡ signedHalf half x ⌝ }
 {

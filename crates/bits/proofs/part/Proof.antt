@@ -1,8 +1,6 @@
 use borrow.Author.Needs.{needs}
 use native.Mathlib.Omega.{arith}
-use Prim.Native.Nat.{ℕ, zero, suc, _+_, _*_, _-_, _/_, _%_, _^_, _≤_, _<_}
-use mathlib.Core.Path.{_≡_, sym, ap, _∙_, refl, subst}
-use lib.ListN.{length, getD}
+use mathlib.Core.Path.{refl}
 use lib.Pow.{pow-pos}
 use Rattle.bits.proofs.PutLaws.{shl-small}
 use Rattle.bits.proofs.part.Statement.{statement}
