@@ -1,24 +1,25 @@
--- Eight bits at once: the register after n bits is x to the power n times the register with those bits added to its top, and that goes through sums.
+-- Many bits at once: the register after n bits is x to the power n times the register with those bits added to its top, and that goes through sums.
 use mathlib.Core.Path.{_≡_, refl, sym, ap, ap₂, subst, _∙_}
 use mathlib.Core.List.{List, [], _∷_, _++_}
+use mathlib.Core.Logic.{dite}
 use Prim.Native.Nat.{ℕ, zero, suc, _+_, _-_, _*_, _/_, _%_, _^_, _<_, _≤_}
-use native.Mathlib.Nat.{pow-suc, mul-assoc, mul-one, zero-mul, add-mul, add-zero, mod-lt, lt-of-lt-of-le}
+use native.Mathlib.Nat.{pow-suc, mul-assoc, mul-one, zero-mul, add-mul, add-zero, add-suc, mod-lt, lt-of-lt-of-le, div-eq-of-lt, mod-eq-of-lt}
 use native.Mathlib.Numerals.{add-one, one-add}
+use native.Mathlib.Decide.{decLt}
 use native.Mathlib.Omega.{arith}
 use lib.Dec.{lit<}
-use lib.Bits.{bitXor, xor-lt, xor-zero-r, xor-shifted, xor-block}
+use lib.Bits.{bitXor, xor-lt, xor-zero-r, xor-shifted}
 use lib.Pow.{pow-pos, pow-add, pow-mono, shr-lt, shl-lt, split}
-use lib.ListN.{getD, length, List·getD-eq-default}
+use lib.ListN.{getD}
 use Rattle.bits.specs.Bits.{bitAt, bitsFrom, fieldAt}
 use Rattle.bits.specs.Poly.{timesX}
-use Rattle.bits.specs.Table.{table}
-use Rattle.bits.proofs.FieldLaws.{bit-lt, field-lt, field-suc}
-use Rattle.bits.proofs.ByteWise.{field-byte}
-use Rattle.bits.proofs.RunLaws.{bits-append, bits-none, bits-step}
+use Rattle.bits.proofs.FieldLaws.{bit-lt, field-lt}
+use Rattle.bits.proofs.WindowLaws.{field-high, field-low}
+use Rattle.bits.proofs.RunLaws.{bits-append}
 use Rattle.bits.proofs.TableLaws.{getD-table}
 use Rattle.bits.proofs.XorLaws.{xor-assoc, timesX-xor, timesX-low, timesX-lt}
 use Rattle.check24.specs.Check.{polynomial, feedOf, checkBits, checkOf}
-use Rattle.check24.specs.Eight.{shifted, feedEight, eights}
+use Rattle.check24.specs.Eight.{shifted, eights}
 use Rattle.check24.proofs.CheckLaws.{feed-lt, check-end}
 
 -- a run of bits in two parts
@@ -44,7 +45,7 @@ checks-lt s r i (suc n) h = checks-lt s (feedOf r (bitAt s i)) (i + 1) n (feed-l
 pub shifted-lt : (n a : ℕ) → a < 2 ^ 24 → shifted n a < 2 ^ 24
 unfolding shifted
 shifted-lt zero a h = h
-shifted-lt (suc n) a h = timesX-lt 23 0x864CFB (lit< tt) (shifted n a) (shifted-lt n a h)
+shifted-lt (suc n) a h = timesX-lt 23 (polynomial - 2 ^ 24) (lit< tt) (shifted n a) (shifted-lt n a h)
 
 pub shifted-xor : (n a b : ℕ) → a < 2 ^ 24 → b < 2 ^ 24 → shifted n (bitXor a b) ≡ bitXor (shifted n a) (shifted n b)
 unfolding shifted
@@ -52,6 +53,11 @@ shifted-xor zero a b h k = refl
 shifted-xor (suc n) a b h k =
     ap (timesX 23 polynomial) (shifted-xor n a b h k)
     ∙ timesX-xor 23 polynomial (shifted n a) (shifted n b) (shifted-lt n a h) (shifted-lt n b k)
+
+pub shifted-add : (m n a : ℕ) → shifted m (shifted n a) ≡ shifted (n + m) a
+unfolding shifted
+shifted-add zero n a = ap (λ (k : ℕ). shifted k a) (sym (add-zero n))
+shifted-add (suc m) n a = ap (timesX 23 polynomial) (shifted-add m n a) ∙ ap (λ (k : ℕ). shifted k a) (sym (add-suc n m))
 
 -- as long as nothing reaches the top, it is a product by 2 ^ n
 pub shifted-low : (n m a : ℕ) → m + n ≤ 24 → a < 2 ^ m → shifted n a ≡ a * 2 ^ n
@@ -104,63 +110,84 @@ feeds s r i (suc n) k e h =
     ∙ sym (shifted-xor n x (b * 2 ^ k) hx hy)
     ∙ ap (shifted n) (xor-assoc r (f * 2 ^ suc k) (b * 2 ^ k) ∙ ap (bitXor r) (join f b k hb)))
 
-pub eight-lt : (s : List ℕ) (j r : ℕ) → r < 2 ^ 24 → feedEight r (fieldAt s (8 * j) 8) < 2 ^ 24
-unfolding feedEight
-eight-lt s j r h = shifted-lt 8 (bitXor r (fieldAt s (8 * j) 8 * 2 ^ 16)) (xor-lt 24 r (fieldAt s (8 * j) 8 * 2 ^ 16) h (top-lt s (8 * j) 8 16 refl))
+-- all the bits of the register at once
+all-bits : (s : List ℕ) (r i : ℕ) → r < 2 ^ 24 → shifted 24 (bitXor r (fieldAt s i 24)) ≡ checkBits r (bitsFrom s i 24)
+all-bits s r i h = ap (λ (x : ℕ). shifted 24 (bitXor r x)) (sym (mul-one (fieldAt s i 24))) ∙ sym (feeds s r i 24 0 refl h)
 
--- a byte more, and none left
-pub bytes-step : (s : List ℕ) (j n r : ℕ) → 0 < n → r < 2 ^ 24
-    → checkBits (feedEight r (fieldAt s (8 * j) 8)) (bitsFrom s (8 * (j + 1)) (8 * (n - 1))) ≡ checkBits r (bitsFrom s (8 * j) (8 * n))
-unfolding feedEight
-bytes-step s j n r l h =
-    let e : 8 + 8 * (n - 1) ≡ 8 * n = omega arith in
-    let f : 8 * (j + 1) ≡ 8 * j + 8 = omega arith in
-    ap₂ (λ (q i : ℕ). checkBits q (bitsFrom s i (8 * (n - 1)))) (sym (feeds s r (8 * j) 8 16 refl h)) f
-    ∙ checks-split s r (8 * j) 8 (8 * (n - 1))
-    ∙ ap (λ (m : ℕ). checkBits r (bitsFrom s (8 * j) m)) e
+-- fewer of them, where the register is zero
+first-bits : (s : List ℕ) (i n : ℕ) → n ≤ 24 → shifted 24 (fieldAt s i n) ≡ checkBits 0 (bitsFrom s i n)
+first-bits s i n l =
+    let k = 24 - n in
+    let e : k + n ≡ 24 = omega arith in
+    ap (λ (m : ℕ). shifted m (fieldAt s i n)) (sym e)
+    ∙ sym (shifted-add n k (fieldAt s i n))
+    ∙ ap (shifted n) (shifted-low k n (fieldAt s i n) (omega arith) (field-lt s i n))
+    ∙ sym (feeds s 0 i n k (omega arith) (lit< tt))
 
-pub bytes-end : (s : List ℕ) (j n r : ℕ) → n ≤ 0 → r ≡ checkBits r (bitsFrom s (8 * j) (8 * n))
-bytes-end s j n r h = check-end s (8 * j) (8 * n) r (omega arith)
+-- the register r after 48 bits that say x, half by half
+abbrev pub fedOf : ℕ → ℕ → ℕ
+fedOf r x = shifted 24 (bitXor (shifted 24 (bitXor r (x / 2 ^ 24))) (x % 2 ^ 24))
 
--- the register's top eight bits are below 256, and so is their sum with a byte
-pub high-lt : (r b : ℕ) → r < 2 ^ 24 → b < 256 → bitXor (r / 2 ^ 16) b < 256
-high-lt r b h k = xor-lt 8 (r / 2 ^ 16) b (shr-lt 8 16 h) k
+pub fed-lt : (s : List ℕ) (r i n : ℕ) → n ≤ 48 → r < 2 ^ 24 → fedOf r (fieldAt s i n) < 2 ^ 24
+fed-lt s r i n l h =
+    let f = fieldAt s i n in
+    let k : f < 2 ^ 48 = lt-of-lt-of-le (field-lt s i n) (pow-mono {i = n} {j = 48} l) in
+    let q : shifted 24 (bitXor r (f / 2 ^ 24)) < 2 ^ 24 = shifted-lt 24 _ (xor-lt 24 r (f / 2 ^ 24) h (shr-lt 24 24 k)) in
+    shifted-lt 24 _ (xor-lt 24 _ (f % 2 ^ 24) q (mod-lt f (pow-pos 24)))
+
+then-all : (s : List ℕ) (r i m : ℕ) → r < 2 ^ 24 → shifted 24 (bitXor r (fieldAt s i m)) ≡ checkBits r (bitsFrom s i m)
+    → fedOf r (fieldAt s i (m + 24)) ≡ checkBits r (bitsFrom s i (m + 24))
+then-all s r i m h e =
+    ap₂ (λ (x y : ℕ). shifted 24 (bitXor (shifted 24 (bitXor r x)) y)) (field-high s i m 24) (field-low s i m 24)
+    ∙ ap (λ (q : ℕ). shifted 24 (bitXor q (fieldAt s (i + m) 24))) e
+    ∙ all-bits s (checkBits r (bitsFrom s i m)) (i + m) (checks-lt s r i m h)
+    ∙ checks-split s r i m 24
+
+-- 48 bits more
+pub fed-all : (s : List ℕ) (r i : ℕ) → r < 2 ^ 24 → fedOf r (fieldAt s i 48) ≡ checkBits r (bitsFrom s i 48)
+fed-all s r i h = then-all s r i 24 h (all-bits s r i h)
+
+-- the first bits, fewer than 48: a register of zero does not see zeros
+pub fed-first : (s : List ℕ) (i n : ℕ) → n < 48 → fedOf 0 (fieldAt s i n) ≡ checkBits 0 (bitsFrom s i n)
+unfolding shifted timesX
+fed-first s i n l =
+    dite (decLt 24 n)
+    (λ m.
+    let e : n - 24 + 24 ≡ n = omega arith in
+    subst (λ (k : ℕ). fedOf 0 (fieldAt s i k) ≡ checkBits 0 (bitsFrom s i k)) e (then-all s 0 i (n - 24) (lit< tt) (first-bits s i (n - 24) (omega arith))))
+    (λ m.
+    let h : fieldAt s i n < 2 ^ 24 = lt-of-lt-of-le (field-lt s i n) (pow-mono {i = n} {j = 24} (omega arith)) in
+    ap₂ (λ (x y : ℕ). shifted 24 (bitXor (shifted 24 x) y)) (div-eq-of-lt h) (mod-eq-of-lt h) ∙ first-bits s i n (omega arith))
 
 -- by the table: the top eight bits by their entry, the others moved up
-pub by-eights : (r b : ℕ) → r < 2 ^ 24 → b < 256 → bitXor (getD eights (bitXor (r / 2 ^ 16) b) 0) (r % 2 ^ 16 * 256) ≡ feedEight r b
-unfolding eights feedEight
-by-eights r b h k =
-    let q = bitXor (r / 2 ^ 16) b in
+pub by-eights : (r : ℕ) → r < 2 ^ 24 → bitXor (getD eights (r / 2 ^ 16) 0) (r % 2 ^ 16 * 256) ≡ shifted 8 r
+unfolding eights
+by-eights r h =
+    let q = r / 2 ^ 16 in
     let l = r % 2 ^ 16 in
-    let hq : q < 256 = high-lt r b h k in
+    let hq : q < 256 = shr-lt 8 16 h in
     let hl : l < 2 ^ 16 = mod-lt r (pow-pos 16) in
     let hl' : l < 2 ^ 24 = lt-of-lt-of-le hl (pow-mono {i = 16} {j = 24} (omega arith)) in
     ap₂ bitXor (getD-table (λ (k : ℕ). shifted 8 (k * 2 ^ 16)) 256 q 0 hq) (sym (shifted-low 8 16 l (omega arith) hl))
     ∙ sym (shifted-xor 8 (q * 2 ^ 16) l (shl-lt 8 16 hq) hl')
-    ∙ ap (shifted 8) (
-    xor-shifted q 16 l hl
-    ∙ ap (λ (x : ℕ). q * 2 ^ 16 + x) (sym (xor-zero-r l))
-    ∙ sym (xor-block 16 (r / 2 ^ 16) b l 0 hl (pow-pos 16))
-    ∙ ap₂ bitXor (split r 16) (add-zero (b * 2 ^ 16)))
+    ∙ ap (shifted 8) (xor-shifted q 16 l hl ∙ split r 16)
 
--- a byte is the field of its eight bits
-pub whole : (s : List ℕ) (j : ℕ) → getD s j 0 < 256 → getD s j 0 ≡ fieldAt s (8 * j) 8
-whole s j h =
-    let e : getD s j 0 / 2 ^ (8 - 0 - 8) % 2 ^ 8 ≡ getD s j 0 = omega arith in
-    sym (ap (λ (i : ℕ). fieldAt s i 8) (sym (add-zero (8 * j))) ∙ field-byte s j 0 8 (omega arith) ∙ e)
+-- a turn of 48 bits, and none left
+pub turn : (s : List ℕ) (r a n : ℕ) → 0 < n → r < 2 ^ 24 → checkBits (fedOf r (fieldAt s a 48)) (bitsFrom s (a + 48) (48 * (n - 1))) ≡ checkBits r (bitsFrom s a (48 * n))
+turn s r a n l h =
+    let e : 48 + 48 * (n - 1) ≡ 48 * n = omega arith in
+    ap (λ (q : ℕ). checkBits q (bitsFrom s (a + 48) (48 * (n - 1)))) (fed-all s r a h)
+    ∙ checks-split s r a 48 (48 * (n - 1))
+    ∙ ap (λ (k : ℕ). checkBits r (bitsFrom s a k)) e
 
-pub whole-past : (s : List ℕ) (j : ℕ) → length s ≤ j → 0 ≡ fieldAt s (8 * j) 8
-whole-past s j h =
-    let z : getD s j 0 ≡ 0 = List·getD-eq-default s 0 {n = j} h in
-    sym z ∙ whole s j (rw z (lit< tt))
+pub turn-end : (s : List ℕ) (r a n : ℕ) → n ≤ 0 → r ≡ checkBits r (bitsFrom s a (48 * n))
+turn-end s r a n h = check-end s a (48 * n) r (omega arith)
 
--- the run of n bits from bit i on as the bits up to a byte's start, whole bytes, and the bits after them
-pub three-parts : (s : List ℕ) (i n lead m last j : ℕ) → lead + 8 * m + last ≡ n → 8 * j ≡ i + lead
-    → checkBits (checkBits (checkBits 0 (bitsFrom s i lead)) (bitsFrom s (8 * j) (8 * m))) (bitsFrom s (i + lead + 8 * m) last) ≡ checkOf s i n
+-- the first bits and then whole turns
+pub from-first : (s : List ℕ) (at n : ℕ) → checkBits (fedOf 0 (fieldAt s at (n % 48))) (bitsFrom s (at + n % 48) (48 * (n / 48))) ≡ checkOf s at n
 unfolding checkOf
-three-parts s i n lead m last j e f =
-    let g : i + lead + 8 * m ≡ i + (lead + 8 * m) = omega arith in
-    ap₂ (λ (k a : ℕ). checkBits (checkBits (checkBits 0 (bitsFrom s i lead)) (bitsFrom s k (8 * m))) (bitsFrom s a last)) f g
-    ∙ ap (λ (q : ℕ). checkBits q (bitsFrom s (i + (lead + 8 * m)) last)) (checks-split s 0 i lead (8 * m))
-    ∙ checks-split s 0 i (lead + 8 * m) last
-    ∙ ap (λ (k : ℕ). checkBits 0 (bitsFrom s i k)) e
+from-first s at n =
+    let e : n % 48 + 48 * (n / 48) ≡ n = omega arith in
+    ap (λ (q : ℕ). checkBits q (bitsFrom s (at + n % 48) (48 * (n / 48)))) (fed-first s at (n % 48) (omega arith))
+    ∙ checks-split s 0 at (n % 48) (48 * (n / 48))
+    ∙ ap (λ (k : ℕ). checkBits 0 (bitsFrom s at k)) e

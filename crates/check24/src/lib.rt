@@ -1,9 +1,9 @@
-// The check of 24 bits (01, Parity and check bits) over a run of bits of a byte slice: whole bytes by a table, the bits before and after one by one.
+// The check of 24 bits (01, Parity and check bits) over a run of bits of a byte slice, 48 bits a turn, by a table.
 ghost use mathlib.Core.Path.{_≡_};
-ghost use Prim.Native.Nat.{_+_, _*_, _<_, _^_};
-ghost use Rattle.bits.specs.Bits.{bitsFrom, fieldAt};
-ghost use Rattle.check24.specs.Check.{feedOf, checkBits, checkOf, checkOk};
-ghost use Rattle.check24.specs.Eight.{feedEight, eights};
+ghost use Prim.Native.Nat.{_/_, _%_, _<_, _^_};
+ghost use lib.Bits.{bitXor};
+ghost use Rattle.check24.specs.Check.{checkOf, checkOk};
+ghost use Rattle.check24.specs.Eight.{shifted, eights};
 
 // What eight bits more make of a register that holds k in its top eight bits and nothing else.
 const EIGHTS: [u32; 256] = [
@@ -272,82 +272,50 @@ fn eight_table() -> [u32; 256]
     EIGHTS
 }
 
-// The register after one bit more.
-fn feed(r: u32, b: u8) -> u32
-    requires { ⌜ (r < 2 ^ 24) × (b < 2) ⌝ }
-    ensures { λ q. ⌜ q ≡ feedOf r b ⌝ }
-{
-    let x = r ^ (b as u32 * 0x800000);
-    if x < 0x800000 {
-        x * 2
-    } else {
-        (x * 2) ^ 0x1864CFB
-    }
-}
-
-// The register after the eight bits of a byte more, by the table.
-fn feed_eight(t: &[u32; 256], r: u32, b: u8) -> u32
+// The register after eight zero bits more, by the table.
+fn shift8(t: &[u32; 256], r: u32) -> u32
     requires { ⌜ (now t ≡ eights) × (r < 2 ^ 24) ⌝ }
-    ensures { λ q. ⌜ q ≡ feedEight r b ⌝ }
+    ensures { λ q. ⌜ q ≡ shifted 8 r ⌝ }
 {
-    let high = (r >> 16) ^ (b as u32);
+    let high = r >> 16;
     t[high as usize] ^ (r % 0x10000 * 0x100)
 }
 
-// The eight bits of byte j; 0 past the end.
-fn byte(s: &[u8], j: usize) -> u8
-    ensures { λ r. ⌜ r ≡ fieldAt (now (s .entry)) (8 * j) 8 ⌝ }
+// The register after 24 zero bits more.
+fn shift24(t: &[u32; 256], r: u32) -> u32
+    requires { ⌜ (now t ≡ eights) × (r < 2 ^ 24) ⌝ }
+    ensures { λ q. ⌜ q ≡ shifted 24 r ⌝ }
 {
-    if j < s.len() { s[j] } else { 0 }
+    shift8(t, shift8(t, shift8(t, r)))
 }
 
-// The register after n bits more, from bit i on.
-fn feed_bits(s: &[u8], from: u32, i: usize, n: u32) -> u32
-    requires { ⌜ (from < 2 ^ 24) × (i + n < 2 ^ 40) ⌝ }
-    ensures { λ q. ⌜ q ≡ checkBits from (bitsFrom (now (s .entry)) i n) ⌝ }
+// The register after 48 bits more, which x says: the high half of them is added to the register, and then the low half.
+fn feed(t: &[u32; 256], r: u32, x: u64) -> u32
+    requires { ⌜ (now t ≡ eights) × (r < 2 ^ 24) × (x < 2 ^ 48) ⌝ }
+    ensures { λ q. ⌜ q ≡ shifted 24 (bitXor (shifted 24 (bitXor r (x / 2 ^ 24))) (x % 2 ^ 24)) ⌝ }
 {
-    let mut r = from;
-    let mut k = i;
-    let mut left = n;
-    while 0 < left {
-        r = feed(r, bits::bit(s, k));
-        k += 1;
-        left -= 1;
-    }
-    r
+    let high = (x / 0x1000000) as u32;
+    let low = (x % 0x1000000) as u32;
+    shift24(t, shift24(t, r ^ high) ^ low)
 }
 
-// The register after n bytes more, from byte j on.
-fn feed_bytes(s: &[u8], from: u32, j: usize, n: u32) -> u32
-    requires { ⌜ (from < 2 ^ 24) × (j + n < 2 ^ 40) ⌝ }
-    ensures { λ q. ⌜ q ≡ checkBits from (bitsFrom (now (s .entry)) (8 * j) (8 * n)) ⌝ }
-{
-    let t = eight_table();
-    let mut r = from;
-    let mut k = j;
-    let mut left = n;
-    while 0 < left {
-        r = feed_eight(&t, r, byte(s, k));
-        k += 1;
-        left -= 1;
-    }
-    r
-}
-
-// The check of the n bits from bit at on; bits past the end are 0.
+// The check of the n bits from bit at on; bits past the end are 0. The first n % 48 of them are one number too: a register of zero does not see
+// the zeros before them.
 pub fn check(s: &[u8], at: u32, n: u32) -> u32
     ensures { λ r. ⌜ r ≡ checkOf (now (s .entry)) at n ⌝ }
 {
-    if n < 8 {
-        return feed_bits(s, 0, at as usize, n);
+    let t = eight_table();
+    let first = (n % 48) as usize;
+    let mut a = at as usize;
+    let mut r = feed(&t, 0, bits::get(s, a, first));
+    a += first;
+    let mut left = n / 48;
+    while 0 < left {
+        r = feed(&t, r, bits::get(s, a, 48));
+        a += 48;
+        left -= 1;
     }
-    let lead = (8 - at % 8) % 8;
-    let whole = (n - lead) / 8;
-    let start = at as usize + lead as usize;
-    let end = start + 8 * (whole as usize);
-    let before = feed_bits(s, 0, at as usize, lead);
-    let within = feed_bytes(s, before, start / 8, whole);
-    feed_bits(s, within, end, (n - lead) % 8)
+    r
 }
 
 // The 24 bits after the n bits from bit at on are their check.

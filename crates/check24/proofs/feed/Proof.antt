@@ -1,28 +1,31 @@
 use borrow.Author.Needs.{needs}
-use borrow.Author.Tests.{lt-ltb, le-ltb}
 use native.Mathlib.Omega.{arith}
-use Rattle.bits.specs.Poly.{timesX}
-use Rattle.check24.specs.Check.{feedOf}
-use Rattle.check24.proofs.CheckLaws.{in-lt}
+use Prim.Native.Nat.{_/_, _%_, _^_, _<_}
+use lib.Bits.{xor-lt}
+use Rattle.check24.proofs.EightLaws.{shifted-lt}
 use Rattle.check24.proofs.feed.Statement.{statement}
 use Rattle.check24.proofs.feed.Tie as tie
 
-mul-x : tie.Need-mul-x
-mul-x c = search needs
+cast-high : tie.Need-cast-high
+cast-high c = search needs
 
-mul-result : tie.Need-mul-result
-mul-result c = search needs
+cast-low : tie.Need-cast-low
+cast-low c = search needs
 
-mul-result-2 : tie.Need-mul-result-2
-mul-result-2 c = omega (arith, in-lt (c .before .args .r) (c .before .args .b) (c .before .pre .0) (c .before .pre .1))
+shift24-requires : tie.Need-shift24-requires
+shift24-requires c κs =
+    let a = c .args in
+    (c .pre .0, xor-lt 24 (a .r) (a .x / 2 ^ 24) (c .pre .1) (omega arith))
+
+shift24-requires-2 : tie.Need-shift24-requires-2
+shift24-requires-2 c κs =
+    let p = c .before .pre in
+    let a = c .before .args in
+    let h : c .shift24 .result < 2 ^ 24 = rw (c .shift24 .ensures) (shifted-lt 24 _ (xor-lt 24 (a .r) (a .x / 2 ^ 24) (p .1) (omega arith))) in
+    (p .0, xor-lt 24 (c .shift24 .result) (a .x % 2 ^ 24) h (omega arith))
 
 returns : tie.Need-returns
-unfolding feedOf timesX
-returns c = simp (lt-ltb _ _ (c .if1 .taken))
-
-returns-2 : tie.Need-returns-2
-unfolding feedOf timesX
-returns-2 c = simp (le-ltb _ _ (c .if1 .left))
+returns c = rw (c .shift242 .ensures, c .before .shift24 .ensures)
 
 pub feed-spec : {M : Type 1} → statement M
-feed-spec = tie.close (tie.spec mul-x mul-result mul-result-2 returns returns-2)
+feed-spec = tie.close (tie.spec cast-high cast-low shift24-requires shift24-requires-2 returns)
