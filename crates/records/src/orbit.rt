@@ -1,8 +1,7 @@
 // The orbit record of 69 bits.
 ghost use mathlib.Core.Path.{_≡_};
 ghost use Rattle.records.specs.Orbit.{blankOrbit, orbitAt};
-use crate::signed::get13;
-use crate::signed::get15;
+use crate::signed::signed;
 use crate::ura::Ura;
 use crate::ura::ura_of;
 
@@ -32,27 +31,24 @@ pub fn blank_orbit() -> Orbit
     }
 }
 
-// The orbit record from bit at on; blank where its slot is 0.
+// The orbit record from bit at on; blank where its slot is 0. Its fields are read as two, of 22 and 47 bits.
 pub fn orbit_at(s: &[u8], at: u32) -> Orbit
     ensures { λ r. ⌜ r ≡ orbitAt (now (s .entry)) at ⌝ }
 {
     let a0 = at as usize;
-    let slot = bits::get16(s, a0, 9);
+    let x = bits::get32(s, a0, 22);
+    let slot = (x / 0x2000) as u16;
     if slot == 0 {
         return blank_orbit();
     }
-    let a1 = a0 + 9;
-    let iodn = bits::get16(s, a1, 10);
-    let a2 = a1 + 10;
-    let corr = bits::get8(s, a2, 3);
-    let a3 = a2 + 3;
-    let radial = get15(s, a3);
-    let a4 = a3 + 15;
-    let along = get13(s, a4);
-    let a5 = a4 + 13;
-    let cross = get13(s, a5);
-    let a6 = a5 + 13;
-    let ura = ura_of(bits::get8(s, a6, 6));
+    let iodn = (x / 8 % 0x400) as u16;
+    let corr = (x % 8) as u8;
+    let a1 = a0 + 22;
+    let y = bits::get(s, a1, 47);
+    let radial = signed(y / 0x100000000, 0x4000);
+    let along = signed(y / 0x80000 % 0x2000, 0x1000);
+    let cross = signed(y / 64 % 0x2000, 0x1000);
+    let ura = ura_of((y % 64) as u8);
     Orbit {
         slot,
         iodn,

@@ -1,8 +1,10 @@
 use borrow.Author.Needs.{needs}
+use native.Mathlib.Nat.{le-trans}
 use native.Mathlib.Omega.{arith}
 use Prim.Native.Nat.{ℕ, zero, suc, _+_, _*_, _-_, _/_, _%_, _^_, _≤_, _<_}
 use mathlib.Core.Path.{_≡_, ap, refl}
 use mathlib.Core.List.{List, [], _∷_}
+use lib.Dec.{lit≤}
 use lib.ListN.{getD}
 use Rattle.records.proofs.ura.quarters.Statement.{statement}
 use Rattle.records.proofs.ura.quarters.Tie as tie
@@ -44,7 +46,7 @@ mul-result c = record { fits = rule (c .args .code / 8) (c .args .code % 8) (ome
 
 sub-result : tie.Need-sub-result
 unfolding powers
-sub-result c = rule (c .args .code / 8) (c .args .code % 8) (omega arith) (omega arith) .0
+sub-result c = le-trans (lit≤ tt) (rule (c .args .code / 8) (c .args .code % 8) (omega arith) (omega arith) .0)
 
 returns : tie.Need-returns
 unfolding powers
