@@ -5,9 +5,9 @@ use mathlib.Core.List.{List, [], _∷_}
 use Rattle.bits.specs.Pick.{pick}
 
 -- p holds of some element with the elements that follow it
-unfoldable pub some : {A : Type 0} → (A → List A → Bool) → List A → Bool
-some p [] = false
-some p (x ∷ xs) = p x xs || some p xs
+unfoldable pub anyOf : {A : Type 0} → (A → List A → Bool) → List A → Bool
+anyOf p [] = false
+anyOf p (x ∷ xs) = p x xs || anyOf p xs
 
 -- 01, Refusal numbers: the first number whose condition holds, 0 if none does
 abbrev pub first : List (ℕ × Bool) → ℕ

@@ -14,9 +14,9 @@ use Rattle.bits.specs.Some.{first}
 use Rattle.bits.proofs.PutLaws.{field-ext}
 use Rattle.check24.specs.Check.{checkOk}
 use Rattle.contents.specs.Parts.{contentsAt}
-use Rattle.message.specs.Judge.{refusalOf}
+use Rattle.judge.specs.Judge.{refusalOf}
 use Rattle.message.specs.Read.{answer, readMessage}
-use Rattle.message.proofs.ReadLaws.{number-back}
+use Rattle.verdict.proofs.NumberLaws.{number-back}
 use Rattle.bursts.specs.Burst.{refusal, Passes, Run, refusedWith, RunsCaught}
 use Rattle.bursts.proofs.BurstLaws.{burst-caught}
 

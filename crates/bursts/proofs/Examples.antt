@@ -13,10 +13,11 @@ use Rattle.bits.specs.Poly.{timesX}
 use Rattle.bits.proofs.Below.{all, below}
 use Rattle.bits.proofs.RunLaws.{bit-none}
 use Rattle.check24.specs.Check.{feedOf, checkBits, checkOf}
-use Rattle.message.specs.Judge.{refusalOf}
+use Rattle.judge.specs.Judge.{refusalOf}
 use Rattle.contents.specs.Parts.{contentsAt}
-use Rattle.message.specs.Read.{numberOf, answer, readMessage}
-use Rattle.message.specs.declared.read.Reading.{Reading}
+use Rattle.verdict.specs.Verdict.{numberOf}
+use Rattle.message.specs.Read.{answer, readMessage}
+use Rattle.message.specs.declared.Reading.{Reading}
 use Rattle.bursts.specs.Burst.{refusal, Changed, Run, refusedWith, Caught}
 
 -- 01's all-zero message, and the same with the polynomial's 25 digits, 0x1864CFB, in bits 461 to 485

@@ -6,9 +6,10 @@ use mathlib.Core.List.{List}
 use lib.ListN.{length}
 use Rattle.bits.specs.Bits.{bitAt}
 use Rattle.contents.specs.Parts.{noContents}
-use Rattle.message.specs.Read.{numberOf, readMessage}
-use Rattle.message.specs.declared.read.Verdict.the-variants.{Refused}
-use Rattle.message.specs.declared.read.Reading.{Reading}
+use Rattle.verdict.specs.Verdict.{numberOf}
+use Rattle.message.specs.Read.{readMessage}
+use Rattle.verdict.specs.declared.Verdict.the-variants.{Refused}
+use Rattle.message.specs.declared.Reading.{Reading}
 
 -- 02, CR 8: the number that the message is refused with, as read without a ledger; 0 if it is taken
 abbrev pub refusal : List ℕ → ℕ

@@ -7,10 +7,10 @@ use Prim.Native.Nat.{ℕ, _+_}
 use lib.Dec.{eqb}
 use borrow.Author.Tests.{eq-eqb, ne-eqb}
 use Rattle.bits.specs.Bits.{fieldAt}
-use Rattle.contents.specs.Layout.{layoutOf}
+use Rattle.layout.specs.Layout.{layoutOf}
 use Rattle.contents.specs.Parts.{noMask, noClocks, noOrbits, maskIn, clocksIn, orbitsIn, contentsAt}
-use Rattle.contents.specs.declared.layout.Layout.{Layout}
-use Rattle.contents.proofs.LayoutLaws.{pick-all}
+use Rattle.layout.specs.declared.Layout.{Layout}
+use Rattle.layout.proofs.LayoutLaws.{pick-all}
 
 -- type 1 alone has a mask
 no-mask-layout : (kind numc numo : ℕ) → kind ≢ 1 → layoutOf kind numc numo .mask ≡ false

@@ -11,8 +11,8 @@ use Rattle.records.specs.Orbit.{blankOrbit, orbitAt}
 use Rattle.records.specs.Clock.{blankClock, clockAt}
 use Rattle.records.specs.declared.orbit.Orbit.{Orbit}
 use Rattle.records.specs.declared.clock.Clock.{Clock}
-use Rattle.contents.specs.Layout.{partWidths, layoutOf, orbitsFrom}
-use Rattle.contents.specs.declared.layout.Layout.{Layout}
+use Rattle.layout.specs.Layout.{partWidths, layoutOf, orbitsFrom}
+use Rattle.layout.specs.declared.Layout.{Layout}
 use Rattle.contents.specs.declared.parts.MaskPart.{MaskPart}
 use Rattle.contents.specs.declared.parts.ClockPart.{ClockPart}
 use Rattle.contents.specs.declared.parts.OrbitPart.{OrbitPart}

@@ -1,4 +1,3 @@
-// Contents of messages: what each type carries and how wide, its parts, and reading them at any bit offset.
-pub mod layout;
+// Contents of messages: the parts, and reading them at any bit offset.
 pub mod parts;
 pub mod read;

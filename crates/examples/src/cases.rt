@@ -10,7 +10,7 @@ use list::row::RowAnswer;
 use list::rows::Count;
 use list::rows::row_at;
 use list::rows::row_count;
-use message::read::number_of;
+use verdict::number_of;
 
 // A ledger for PRN 60.
 pub fn opened() -> Ledger {

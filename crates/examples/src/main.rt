@@ -7,10 +7,10 @@ mod cases;
 mod say;
 
 use libc::STDOUT_FILENO;
-use message::read::number_of;
 use say::say;
 use say::say_number;
 use say::say_ura;
+use verdict::number_of;
 
 // 000, appendix: the code word of the encoding example, 162 symbols in the print's order, nine to a row.
 const WORD: [[u8; 9]; 18] = [
@@ -152,13 +152,13 @@ fn say_end(kind: u8, numc: u8, numo: u8) {
     say(b" and ");
     say_number(numo as u64);
     say(b", ends at ");
-    say_number(contents::layout::end_of(contents::layout::layout_of(kind, numc, numo)) as u64);
+    say_number(layout::end_of(layout::layout_of(kind, numc, numo)) as u64);
     say(b"\n");
 }
 
 // Writes the answer to a message.
 fn say_read(text: &[u8], message: &[u8]) {
-    let reading = message::read::read(message);
+    let reading = message::read(message);
     let v = reading.verdict;
     say(text);
     say_number(number_of(v) as u64);

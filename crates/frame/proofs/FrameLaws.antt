@@ -14,9 +14,9 @@ use Rattle.bits.specs.Some.{first}
 use Rattle.bits.proofs.TableLaws.{length-table}
 use Rattle.records.specs.Clock.{blankClock}
 use Rattle.records.specs.Orbit.{blankOrbit}
-use Rattle.contents.specs.Layout.{orbitsFrom}
+use Rattle.layout.specs.Layout.{orbitsFrom}
 use Rattle.contents.specs.Parts.{maskBitAt, clockNth, orbitNth, maskPartAt, clockPartAt, orbitPartAt, layoutAt, maskBitsAt, clocksAt, orbitsAt, noMask, noClocks, noOrbits, maskIn, clocksIn, orbitsIn, contentsAt}
-use Rattle.message.specs.Judge.{isKind, tooLong, late, highSlot, twice, reservedBit, refusalOf}
+use Rattle.judge.specs.Judge.{isKind, tooLong, late, highSlot, twice, reservedBit, refusalOf}
 use Rattle.contents.specs.declared.parts.MaskPart.{MaskPart}
 use Rattle.contents.specs.declared.parts.ClockPart.{ClockPart}
 use Rattle.contents.specs.declared.parts.OrbitPart.{OrbitPart}

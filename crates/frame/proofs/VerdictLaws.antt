@@ -15,12 +15,13 @@ use Rattle.check24.specs.Check.{checkOk}
 use Rattle.parity.specs.Parity.{parityOk}
 use Rattle.contents.specs.Parts.{noContents}
 use Rattle.contents.specs.declared.parts.Contents.{Contents}
-use Rattle.contents.proofs.LayoutLaws.{pick-all}
-use Rattle.message.specs.Judge.{isKind, tooLong, late, highSlot, twice, reservedBit, refusalOf}
-use Rattle.message.specs.Read.{numberOf, verdictOf, answer}
-use Rattle.message.specs.declared.read.Verdict.{Verdict}
-use Rattle.message.specs.declared.read.Reading.{Reading}
-use Rattle.message.proofs.ReadLaws.{number-back}
+use Rattle.layout.proofs.LayoutLaws.{pick-all}
+use Rattle.judge.specs.Judge.{isKind, tooLong, late, highSlot, twice, reservedBit, refusalOf}
+use Rattle.verdict.specs.Verdict.{numberOf, verdictOf}
+use Rattle.message.specs.Read.{answer}
+use Rattle.verdict.specs.declared.Verdict.{Verdict}
+use Rattle.message.specs.declared.Reading.{Reading}
+use Rattle.verdict.proofs.NumberLaws.{number-back}
 use Rattle.frame.specs.Frame.{contentsOf, shellRefusal, refusalWith, verdictFor, readWith}
 use Rattle.frame.proofs.FrameLaws.{leading, second}
 

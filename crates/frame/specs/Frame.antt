@@ -1,8 +1,8 @@
 -- 01, What arrives and what is handled: 16 symbols of sync, 6 of PRN, 6 of flags, 972 coded; the message is the first 486 of those.
 use Prim.Native.Nat.{ℕ}
-use mathlib.Core.Bool.{Bool, false, not}
+use mathlib.Core.Bool.{Bool, false, not, _&&_, _||_}
 use mathlib.Core.List.{List, [], _∷_}
-use lib.Dec.{eqb}
+use lib.Dec.{eqb, leb}
 use lib.ListN.{length}
 use Rattle.bits.specs.Pick.{pick}
 use Rattle.bits.specs.Bits.{bitAt, fieldAt}
@@ -10,12 +10,12 @@ use Rattle.bits.specs.Some.{first}
 use Rattle.check24.specs.Check.{checkOk}
 use Rattle.parity.specs.Parity.{parityOk, failedGroups}
 use Rattle.contents.specs.Parts.{contentsAt, noContents}
-use Rattle.message.specs.Judge.{refusalOf}
-use Rattle.message.specs.Read.{verdictOf}
-use Rattle.message.specs.declared.read.Verdict.{Verdict}
-use Rattle.message.specs.declared.read.Verdict.the-variants.{Parity}
+use Rattle.judge.specs.Judge.{refusalOf}
+use Rattle.verdict.specs.Verdict.{verdictOf}
+use Rattle.verdict.specs.declared.Verdict.{Verdict}
+use Rattle.verdict.specs.declared.Verdict.the-variants.{Parity}
 use Rattle.contents.specs.declared.parts.Contents.{Contents}
-use Rattle.message.specs.declared.read.Reading.{Reading}
+use Rattle.message.specs.declared.Reading.{Reading}
 
 -- 01: the satellite's PRN, after the sync
 abbrev pub prnOf : List ℕ → ℕ
@@ -55,9 +55,13 @@ readWith foreign f =
 abbrev pub readFrame : List ℕ → Reading
 readFrame f = readWith false f
 
--- 01, 4: the frame's PRN is not the ledger's
+-- 01: a ledger is made for one PRN among 1 to 5 and 59 to 63
+abbrev pub isPrn : ℕ → Bool
+isPrn prn = (leb 1 prn && leb prn 5) || (leb 59 prn && leb prn 63)
+
+-- 01, 4: the frame's PRN is not the ledger's; bytes that are no ledger of the ten have none
 abbrev pub foreignTo : ℕ → List ℕ → Bool
-foreignTo prn f = not (eqb (prnOf f) prn)
+foreignTo prn f = not (isPrn prn && eqb (prnOf f) prn)
 
 -- the verdict on the frame around its message, for a ledger's PRN
 abbrev pub shellFor : ℕ → List ℕ → Verdict

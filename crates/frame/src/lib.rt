@@ -1,13 +1,13 @@
 // Frames of 125 bytes, read without a ledger or for one PRN: 01, "What arrives and what is handled".
 ghost use mathlib.Core.Path.{_≡_};
-ghost use Rattle.frame.specs.Frame.{prnOf, shellRefusal, verdictFor, readFrame, shellFor, readWith};
+ghost use Rattle.frame.specs.Frame.{prnOf, isPrn, shellRefusal, verdictFor, readFrame, shellFor, readWith};
 use contents::parts::no_contents;
 use contents::read::contents_at;
-use message::judge::refusal_of;
-use message::read::Reading;
-use message::read::Verdict;
-use message::read::answer_of;
-use message::read::number_of;
+use judge::refusal_of;
+use message::Reading;
+use message::answer_of;
+use verdict::Verdict;
+use verdict::number_of;
 
 // The PRN that a frame carries; the bits past the end of a short one are 0.
 pub fn prn_of(f: &[u8]) -> u8
@@ -62,10 +62,17 @@ pub fn read_frame(f: &[u8]) -> Reading
     read_with(f, false)
 }
 
+// Whether a ledger can be made for the PRN: 1 to 5 and 59 to 63.
+pub fn is_prn(prn: u8) -> bool
+    ensures { λ r. ⌜ r ≡ isPrn prn ⌝ }
+{
+    ((1 <= prn) & (prn <= 5)) | ((59 <= prn) & (prn <= 63))
+}
+
 // The verdict on the frame around its message, for one PRN: refusals 1, 3 to 7, or taken.
 pub fn shell_for(f: &[u8], prn: u8) -> Verdict
     ensures { λ r. ⌜ r ≡ shellFor prn (now (f .entry)) ⌝ }
 {
-    let foreign = prn_of(f) != prn;
-    shell_verdict(f, foreign)
+    let own = is_prn(prn) & (prn_of(f) == prn);
+    shell_verdict(f, !own)
 }

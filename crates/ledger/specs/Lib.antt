@@ -1,3 +1,1 @@
-pub mod Keeps
-pub mod Back
-pub mod Bytes
+pub mod Open

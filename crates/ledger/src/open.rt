@@ -1,35 +1,17 @@
 // Opening a ledger for one PRN.
 ghost use mathlib.Core.Path.{_≡_};
-ghost use lib.ListN.{length, replicate};
-ghost use Rattle.message.specs.Read.{verdictOf};
-ghost use Rattle.ledger.specs.Keeps.{isPrn};
-ghost use Rattle.ledger.specs.Bytes.{fresh, openRefusal, openBytes};
+ghost use Rattle.verdict.specs.Verdict.{verdictOf};
+ghost use Rattle.in_force.specs.Bytes.{fresh};
+ghost use Rattle.ledger.specs.Open.{openRefusal, openBytes};
 use crate::Ledger;
-use message::read::Verdict;
-
-// Whether a ledger can be made for the PRN: 1 to 5 and 59 to 63.
-pub fn is_prn(prn: u8) -> bool
-    ensures { λ r. ⌜ r ≡ isPrn prn ⌝ }
-{
-    ((1 <= prn) & (prn <= 5)) | ((59 <= prn) & (prn <= 63))
-}
-
-// Every byte is made 0.
-fn clear(t: &mut [u8])
-    ensures { λ r. ⌜ now (t .exit) ≡ replicate (length (now (t .entry))) 0 ⌝ }
-{
-    let mut i: usize = 0;
-    while i < t.len() {
-        t[i] = 0;
-        i += 1;
-    }
-}
+use frame::is_prn;
+use verdict::Verdict;
 
 // The bytes become a fresh ledger for the PRN, whatever they held before.
 pub fn make_fresh(t: &mut [u8], prn: u8)
     ensures { λ r. ⌜ now (t .exit) ≡ fresh (now (t .entry)) prn ⌝ }
 {
-    clear(t);
+    lent::clear(t);
     if 0 < t.len() {
         t[0] = prn;
     }

@@ -2,13 +2,14 @@
 ghost use mathlib.Core.Path.{_≡_};
 ghost use Prim.Native.Nat.{_+_, _/_, _<_};
 ghost use lib.ListN.{length};
-ghost use Rattle.message.specs.Read.{verdictOf};
-ghost use Rattle.ledger.specs.Bytes.{openRefusal, takeBytes, frameAt, runBytes, framesOf, Replayed};
+ghost use Rattle.verdict.specs.Verdict.{verdictOf};
+ghost use Rattle.ledger.specs.Open.{openRefusal};
+ghost use Rattle.in_force.specs.Bytes.{takeBytes, frameAt, runBytes, framesOf, Replayed};
 use crate::Ledger;
-use crate::open::is_prn;
 use crate::open::make_fresh;
 use crate::take::take_in;
-use message::read::Verdict;
+use frame::is_prn;
+use verdict::Verdict;
 
 // How many frames a log of n bytes has: pieces of 125, and one more for what is left at the end.
 pub fn frame_count(n: usize) -> usize

@@ -5,10 +5,11 @@ ghost use mathlib.Core.Logic.{_≢_};
 ghost use Prim.Native.Nat.{_≤_};
 ghost use Rattle.bits.specs.Pick.{pick};
 ghost use Rattle.frame.specs.Frame.{contentsOf, foreignTo, shellRefusal};
-ghost use Rattle.form.specs.Form.{putClocks, putOrbits, droppedClocks};
-ghost use Rattle.mask.specs.Mask.{maskAt, heldMask, sameMask};
-ghost use Rattle.ledger.specs.Keeps.{heldOrbit, heldClock, orbitsOf, clocksOf, needsMask, firstPlace, placeToCheck, placeNumber, placeRefusal, placeVerdict};
-ghost use Rattle.ledger.specs.Bytes.{prnAt, maskBytes, takeVerdict, takeBytes};
+ghost use Rattle.held_clocks.specs.Clocks.{putClocks, droppedClocks};
+ghost use Rattle.held_orbits.specs.Orbits.{putOrbits};
+ghost use Rattle.held_mask.specs.Mask.{maskAt, heldMask, sameMask};
+ghost use Rattle.places.specs.Keeps.{orbitsOf, clocksOf, needsMask, firstPlace, placeRefusal};
+ghost use Rattle.in_force.specs.Bytes.{prnAt, maskBytes, takeVerdict, takeBytes};
 use crate::Ledger;
 use contents::parts::ClockPart;
 use contents::parts::MaskPart;
@@ -17,122 +18,23 @@ use contents::read::clocks_of;
 use contents::read::kind_of;
 use contents::read::mask_of;
 use contents::read::orbits_of;
-use form::HeldClock;
-use form::HeldOrbit;
-use message::judge::refusal_of_mask;
-use message::judge::refusal_of_parts;
-use message::read::Verdict;
-use message::read::number_of;
-use message::read::verdict_of;
-use records::clock::Clock;
-use records::orbit::Orbit;
+use judge::refusal_of_mask;
+use judge::refusal_of_parts;
+use places::first_place;
+use places::held_clock;
+use places::held_orbit;
+use places::needs_mask;
+use places::place_verdict;
+use records::slots::Place;
+use records::slots::Slot;
+use verdict::Verdict;
+use verdict::number_of;
 
 // The PRN that the ledger is for.
 fn ledger_prn(t: &[u8]) -> u8
     ensures { λ r. ⌜ r ≡ prnAt (now (t .entry)) ⌝ }
 {
     if 0 < t.len() { t[0] } else { 0 }
-}
-
-// Whether the clock records go by places in the mask.
-fn needs_mask(kind: u8, p: ClockPart) -> bool
-    ensures { λ r. ⌜ r ≡ needsMask kind p ⌝ }
-{
-    (kind == 4) | ((kind == 6) & (p.count > 0))
-}
-
-// The place of the first clock record.
-fn first_place(kind: u8, p: ClockPart) -> u32
-    ensures { λ r. ⌜ r ≡ firstPlace kind p ⌝ }
-{
-    if kind == 4 {
-        23 * (p.start as u32) + 1
-    } else {
-        p.start as u32
-    }
-}
-
-// The place that must lie within the mask: type 4's first, type 6's last.
-fn place_to_check(kind: u8, p: ClockPart) -> u32
-    ensures { λ r. ⌜ r ≡ placeToCheck kind p ⌝ }
-{
-    if kind == 4 {
-        return 23 * (p.start as u32) + 1;
-    }
-    let end = p.start as u32 + p.count as u32;
-    if end == 0 { 0 } else { end - 1 }
-}
-
-// The number for a place that no satellite has.
-fn place_number(kind: u8) -> u8
-    ensures { λ r. ⌜ r ≡ placeNumber kind ⌝ }
-{
-    if kind == 4 { 15 } else { 19 }
-}
-
-// Why clocks by place are refused under the mask held: 14, 15 or 19; 0 if they are not.
-fn place_refusal(t: &[u8], kind: u8, p: ClockPart) -> u8
-    ensures { λ r. ⌜ r ≡ placeRefusal (maskAt (now (t .entry))) kind p ⌝ }
-{
-    if !needs_mask(kind, p) {
-        return 0;
-    }
-    if !mask::has_mask(t) {
-        return 14;
-    }
-    if mask::mask_ssr(t) != p.ssr {
-        return 14;
-    }
-    if mask::mask_iodp(t) != p.iodp {
-        return 14;
-    }
-    if (mask::set_count(t) as u32) < place_to_check(kind, p) {
-        return place_number(kind);
-    }
-    0
-}
-
-// The verdict on clocks by place under the mask held; 19 gives the number of places too.
-fn place_verdict(t: &[u8], kind: u8, p: ClockPart) -> Verdict
-    ensures { λ r. ⌜ r ≡ placeVerdict (maskAt (now (t .entry))) (placeRefusal (maskAt (now (t .entry))) kind p) ⌝ }
-{
-    let n = place_refusal(t, kind, p);
-    if n == 19 {
-        return Verdict::Places(mask::set_count(t));
-    }
-    verdict_of(n)
-}
-
-// A clock record as it is kept.
-fn held_clock(placed: bool, epoch: u32, ssr: u8, k: Clock) -> HeldClock
-    ensures { λ r. ⌜ r ≡ heldClock placed epoch ssr k ⌝ }
-{
-    HeldClock {
-        has: true,
-        placed,
-        epoch,
-        ssr,
-        corr: k.corr,
-        c0: k.c0,
-    }
-}
-
-// An orbit record as it is kept.
-fn held_orbit(epoch: u32, ssr: u8, o: Orbit) -> HeldOrbit
-    ensures { λ r. ⌜ r ≡ heldOrbit epoch ssr o ⌝ }
-{
-    let ura = o.ura;
-    HeldOrbit {
-        has: true,
-        epoch,
-        ssr,
-        iodn: o.iodn,
-        corr: o.corr,
-        radial: o.radial,
-        along: o.along,
-        cross: o.cross,
-        ura,
-    }
 }
 
 // Clock records that name their slots are kept.
@@ -144,7 +46,7 @@ fn clocks_by_slot(t: &mut [u8], p: ClockPart)
     while j < 23 {
         let k = ks[j];
         let h = held_clock(false, p.epoch, p.ssr, k);
-        form::put_clock(t, k.slot, h);
+        held_clocks::put_clock(t, k.slot, h);
         j += 1;
     }
 }
@@ -161,10 +63,10 @@ fn clocks_by_place(t: &mut [u8], kind: u8, p: ClockPart)
     let mut n = first;
     let mut j: usize = 0;
     while (j < 23) & (j < count) {
-        let slot = mask::nth_after(t, from, n).0;
+        let slot = held_mask::nth_after(t, Slot(from), Place(n)).0;
         let h = held_clock(true, p.epoch, p.ssr, ks[j]);
-        form::put_clock(t, slot as u16, h);
-        from = mask::resumed(from, n, slot);
+        held_clocks::put_clock(t, slot as u16, h);
+        from = held_mask::resumed(Slot(from), Place(n), Slot(slot)).0;
         n = 1;
         j += 1;
     }
@@ -193,7 +95,7 @@ fn orbits_by_slot(t: &mut [u8], p: OrbitPart)
     while j < 6 {
         let o = os[j];
         let h = held_orbit(p.epoch, p.ssr, o);
-        form::put_orbit(t, o.slot, h);
+        held_orbits::put_orbit(t, o.slot, h);
         j += 1;
     }
 }
@@ -211,8 +113,8 @@ fn take_orbits(t: &mut [u8], kind: u8, p: OrbitPart)
 fn drop_for(t: &mut [u8], m: MaskPart)
     ensures { λ r. ⌜ now (t .exit) ≡ pick (sameMask (maskAt (now (t .entry))) (heldMask m)) (now (t .entry)) (droppedClocks (now (t .entry)) 255) ⌝ }
 {
-    if !mask::same_mask(t, m) {
-        form::drop_placed(t);
+    if !held_mask::same_mask(t, m) {
+        held_clocks::drop_placed(t);
     }
 }
 
@@ -221,7 +123,7 @@ fn take_mask(t: &mut [u8], m: MaskPart)
     ensures { λ r. ⌜ now (t .exit) ≡ maskBytes (now (t .entry)) m ⌝ }
 {
     drop_for(t, m);
-    mask::put_mask(t, m);
+    held_mask::put_mask(t, m);
 }
 
 // A type 1 in a good frame is taken, or refused.

@@ -10,12 +10,12 @@ use mathlib.Core.Bool.{Bool, true, false}
 use native.Mathlib.Omega.{arith}
 use lib.ListN.{length, getD}
 use Rattle.bits.specs.Pick.{pick}
-use Rattle.store.specs.Walk.{toList}
+use Rattle.lookback.specs.Walk.{toList}
 use Rattle.list.specs.Row.{answerOf, rowHeld}
-use Rattle.bits.specs.Some.{some as someOf}
+use Rattle.bits.specs.Some.{anyOf}
 use Rattle.list.specs.Issues.{isIll, issuesRefusal}
 use Rattle.list.specs.Rows.{foundCount, rowIn, listIn, countAnswer, rowAtAnswer, rowOfSlotAnswer}
-use Rattle.store.specs.Walk.{nthOf}
+use Rattle.lookback.specs.Walk.{nthOf}
 use Rattle.list.specs.declared.rows.Count.the-variants as count
 use Rattle.list.specs.declared.row.Row.{Row}
 use Rattle.list.specs.declared.row.RowAnswer.{RowAnswer}
@@ -48,9 +48,9 @@ issues-long is e =
     dite (ℕ-discrete (length is) 255) (λ q. q)
     (λ n. absurd (let z : _≡_ {A = ℕ} 1 0 = rw (ne-eqb (length is) 255 n) at e in omega arith))
 
-pub issues-sound : (is : List ℕ) → issuesRefusal is ≡ 0 → someOf isIll is ≡ false
+pub issues-sound : (is : List ℕ) → issuesRefusal is ≡ 0 → anyOf isIll is ≡ false
 unfolding issuesRefusal
-issues-sound is e = go (someOf isIll is) (rw (eq-eqb (length is) 255 (issues-long is e)) at e)
+issues-sound is e = go (anyOf isIll is) (rw (eq-eqb (length is) 255 (issues-long is e)) at e)
   where
     go : (b : Bool) → _≡_ {A = ℕ} (pick b 17 0) 0 → b ≡ false
     go true h = absurd (let z : _≡_ {A = ℕ} 17 0 = h in omega arith)
@@ -94,9 +94,9 @@ module _ (s is : List ℕ) where
 
       pub slot-bad : slot ≤ 255 → (issuesRefusal is ≡ 0 → ⊥) → rowOfSlotAnswer s is slot ≡ Refused (issuesRefusal is)
       unfolding rowOfSlotAnswer issuesRefusal
-      slot-bad h n = ill (someOf isIll is) refl
+      slot-bad h n = ill (anyOf isIll is) refl
         where
-          ill : (b : Bool) → someOf isIll is ≡ b → rowOfSlotAnswer s is slot ≡ Refused (issuesRefusal is)
+          ill : (b : Bool) → anyOf isIll is ≡ b → rowOfSlotAnswer s is slot ≡ Refused (issuesRefusal is)
           ill true e = rw (eq-eqb (length is) 255 len, ne-eqb slot 0 low, le-ltb 255 slot h, e) (answer-bad 17 (rowIn s is slot) (λ q. omega arith))
           ill false e = absurd (n (rw (eq-eqb (length is) 255 len, e)))
 

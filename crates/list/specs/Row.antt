@@ -9,10 +9,11 @@ use Rattle.bits.specs.Pick.{pick}
 use Rattle.records.specs.Slots.{satelliteOf}
 use Rattle.records.specs.declared.ura.Ura.{Ura}
 use Rattle.records.specs.declared.ura.Ura.the-variants.{Unknown, Quarters, Above}
-use Rattle.form.specs.Form.{clockAt, orbitAt}
-use Rattle.form.specs.declared.HeldClock.{HeldClock}
-use Rattle.form.specs.declared.HeldOrbit.{HeldOrbit}
-use Rattle.mask.specs.Mask.{HeldMask, bitAtSlot, maskAt}
+use Rattle.held_clocks.specs.Clocks.{clockAt}
+use Rattle.held_orbits.specs.Orbits.{orbitAt}
+use Rattle.held_clocks.specs.declared.HeldClock.{HeldClock}
+use Rattle.held_orbits.specs.declared.HeldOrbit.{HeldOrbit}
+use Rattle.held_mask.specs.Mask.{HeldMask, bitAtSlot, maskAt}
 use Rattle.list.specs.declared.row.Row.{Row}
 use Rattle.list.specs.declared.row.RowAnswer.{RowAnswer}
 use Rattle.list.specs.declared.row.RowAnswer.the-variants.{Found, Refused}

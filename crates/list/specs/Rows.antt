@@ -6,8 +6,8 @@ use mathlib.Core.Option.{Option}
 use lib.Dec.{eqb, ltb}
 use lib.ListN.{length}
 use Rattle.bits.specs.Pick.{pick}
-use Rattle.bits.specs.Some.{some, first}
-use Rattle.store.specs.Walk.{rows, nthOf}
+use Rattle.bits.specs.Some.{anyOf, first}
+use Rattle.lookback.specs.Walk.{rows, nthOf}
 use Rattle.list.specs.Issues.{isIll, issuesRefusal, issueOf}
 use Rattle.list.specs.Row.{rowHeld, answerOf}
 use Rattle.list.specs.declared.row.Row.{Row}
@@ -46,5 +46,5 @@ rowAtAnswer s is n = answerOf (issuesRefusal is) (nthOf (listIn s is) n)
 unfoldable pub rowOfSlotAnswer : List ℕ → List ℕ → ℕ → RowAnswer
 rowOfSlotAnswer s is slot =
     answerOf
-    (first ((1, not (eqb (length is) 255)) ∷ (11, eqb slot 0 || ltb 255 slot) ∷ (17, some isIll is) ∷ []))
+    (first ((1, not (eqb (length is) 255)) ∷ (11, eqb slot 0 || ltb 255 slot) ∷ (17, anyOf isIll is) ∷ []))
     (rowIn s is slot)

@@ -1,11 +1,11 @@
 // The broadcast list: 255 numbers, entry k for slot k.
 ghost use mathlib.Core.Path.{_≡_};
-ghost use Rattle.bits.specs.Some.{some};
+ghost use Rattle.bits.specs.Some.{anyOf};
 ghost use Rattle.list.specs.Issues.{isIll, issuesRefusal};
 
 // Whether some entry is neither 0 to 1023 nor 65535.
 fn any_ill(is: &[u16]) -> bool
-    ensures { λ r. ⌜ r ≡ some isIll (now (is .entry)) ⌝ }
+    ensures { λ r. ⌜ r ≡ anyOf isIll (now (is .entry)) ⌝ }
 {
     let mut i: usize = 0;
     while i < is.len() {

@@ -3,10 +3,10 @@ ghost use mathlib.Core.Path.{_≡_};
 ghost use lib.Dec.{eqb};
 ghost use lib.IntN.{negsuc};
 ghost use mathlib.Core.Option.{some, none};
-ghost use Rattle.mask.specs.Mask.{maskAt};
+ghost use Rattle.held_mask.specs.Mask.{maskAt};
 ghost use Rattle.list.specs.Row.{isKnown, usable, agrees, rowFrom, rowHeld, answerOf};
-use form::HeldClock;
-use form::HeldOrbit;
+use held_clocks::HeldClock;
+use held_orbits::HeldOrbit;
 use records::slots::Slot;
 use records::slots::System;
 use records::ura::Ura;
@@ -86,15 +86,15 @@ fn row_from(slot: u8, o: HeldOrbit, k: HeldClock) -> Row
 pub fn slot_row(ledger: &[u8], slot: u8, issue: u16) -> RowAnswer
     ensures { λ r. ⌜ r ≡ answerOf 0 (rowHeld (now (ledger .entry)) issue slot) ⌝ }
 {
-    if !mask::has_mask(ledger) {
+    if !held_mask::has_mask(ledger) {
         return RowAnswer::Refused(18);
     }
-    if !mask::has_bit(ledger, Slot(slot)) {
+    if !held_mask::has_bit(ledger, Slot(slot)) {
         return RowAnswer::Refused(18);
     }
-    let o = form::get_orbit(ledger, slot);
-    let k = form::get_clock(ledger, slot);
-    if !do_agree(mask::mask_ssr(ledger), o, k, issue) {
+    let o = held_orbits::get_orbit(ledger, slot);
+    let k = held_clocks::get_clock(ledger, slot);
+    if !do_agree(held_mask::mask_ssr(ledger), o, k, issue) {
         return RowAnswer::Refused(18);
     }
     if !is_usable(o, k) {

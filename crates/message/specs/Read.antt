@@ -9,22 +9,10 @@ use Rattle.bits.specs.Bits.{fieldAt}
 use Rattle.bits.specs.Some.{first}
 use Rattle.check24.specs.Check.{checkOk}
 use Rattle.contents.specs.Parts.{contentsAt, noContents}
-use Rattle.message.specs.Judge.{refusalOf}
+use Rattle.judge.specs.Judge.{refusalOf}
 use Rattle.contents.specs.declared.parts.Contents.{Contents}
-use Rattle.message.specs.declared.read.Verdict.{Verdict}
-use Rattle.message.specs.declared.read.Verdict.the-variants.{Taken, Refused, Parity, Places}
-use Rattle.message.specs.declared.read.Reading.{Reading}
-
--- 01, Refusal numbers, and 02, CR 1: the number of each verdict; taken is 0, failing parity groups are 6, too few places in the mask 19
-abbrev pub numberOf : Verdict → ℕ
-numberOf Taken = 0
-numberOf (Refused n) = n
-numberOf (Parity first failing) = 6
-numberOf (Places set) = 19
-
--- the verdict of a number
-abbrev pub verdictOf : ℕ → Verdict
-verdictOf n = pick (eqb n 0) Taken (Refused n)
+use Rattle.verdict.specs.Verdict.{verdictOf}
+use Rattle.message.specs.declared.Reading.{Reading}
 
 -- 01: refused with n and nothing else; taken with its contents where n is 0
 unfoldable pub answer : ℕ → Contents → Reading

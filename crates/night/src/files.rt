@@ -3,12 +3,12 @@ use libc::STDIN_FILENO;
 
 // Opens a file for reading; negative where it cannot be opened, and it has been said why.
 pub fn open_named(name: &[u8]) -> i32 {
-    if text::words::same(name, b"-") {
+    if console::words::same(name, b"-") {
         return STDIN_FILENO;
     }
     let fd = os::open_read(name);
     if fd < 0 {
-        text::say::say_errno(b"night", name);
+        console::say::say_errno(b"night", name);
     }
     fd
 }
@@ -32,14 +32,14 @@ fn is_readable(i: usize) -> bool {
     let mut path = io::buffer();
     let n = os::arg(i, &mut path);
     if os::errno() != 0 {
-        text::say::say_errno(b"night", b"argument");
+        console::say::say_errno(b"night", b"argument");
         return false;
     }
-    if text::words::same(&path[..n], b"-") {
+    if console::words::same(&path[..n], b"-") {
         return true;
     }
     if !may_read(path) {
-        text::say::say_errno(b"night", &path[..n]);
+        console::say::say_errno(b"night", &path[..n]);
         return false;
     }
     true

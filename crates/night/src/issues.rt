@@ -1,14 +1,14 @@
 // The issues of the broadcast messages, from a text file: a line such as C19 37 for each satellite.
-ghost use Rattle.text.specs.Lines.{Inside};
+ghost use Rattle.console.specs.Lines.{Inside};
 use crate::files::close_named;
 use crate::files::open_named;
-use text::lines::Lines;
-use text::lines::Step;
-use text::lines::next_line;
-use text::say::say_where;
-use text::words::Number;
-use text::words::next_word;
-use text::words::number_of;
+use console::lines::Lines;
+use console::lines::Step;
+use console::lines::next_line;
+use console::say::say_where;
+use console::words::Number;
+use console::words::next_word;
+use console::words::number_of;
 
 // What a line gives: nothing, a slot's issue, or a fault by its number.
 enum Given {
@@ -76,7 +76,7 @@ fn line_gives(s: &[u8]) -> Given {
     if a == b {
         return Given::Nothing;
     }
-    if text::words::starts(&s[a..b], b'#') {
+    if console::words::starts(&s[a..b], b'#') {
         return Given::Nothing;
     }
     let slot = satellite(&s[a..b]);
@@ -120,8 +120,8 @@ fn say_fault(name: &[u8], number: u64, fault: u8) {
 // A satellite is named a second time.
 fn say_twice(name: &[u8], number: u64, before: u64) {
     let mut room = [0u8; 80];
-    let a = text::put::put_bytes(&mut room, 0, b"satellite named before, on line ");
-    let n = text::put::put_number(&mut room, a, before);
+    let a = console::put::put_bytes(&mut room, 0, b"satellite named before, on line ");
+    let n = console::put::put_number(&mut room, a, before);
     say_where(b"night", name, b"line", number, &room[..n]);
 }
 
@@ -177,7 +177,7 @@ fn turn(name: &[u8], room: &[u8], l: Lines, issues: &mut [u16; 255], seen: &mut 
     match step {
         Step::End => 1,
         Step::Failed => {
-            text::say::say_errno(b"night", name);
+            console::say::say_errno(b"night", name);
             2
         }
         Step::Long => {
@@ -208,7 +208,7 @@ fn all_lines(
     issues: &mut [u16; 255],
     seen: &mut [u64; 255],
 ) -> bool {
-    let mut l = text::lines::begin();
+    let mut l = console::lines::begin();
     let mut state: u8 = 0;
     let mut left = u64::MAX;
     while left > 0 && state == 0 {

@@ -2,15 +2,15 @@
 ghost use Rattle.io.specs.Counts.{Counts};
 use crate::files::close_named;
 use crate::files::open_named;
+use console::put::put_byte;
+use console::put::put_bytes;
+use console::put::put_detail;
+use console::put::put_field;
+use console::put::put_number;
 use libc::STDERR_FILENO;
 use libc::STDOUT_FILENO;
-use message::read::Verdict;
-use message::read::number_of;
-use text::put::put_byte;
-use text::put::put_bytes;
-use text::put::put_detail;
-use text::put::put_field;
-use text::put::put_number;
+use verdict::Verdict;
+use verdict::number_of;
 
 // The counts: entry 0 for frames taken, entry n for those refused n, entry 20 for all.
 pub const ALL: usize = 20;
@@ -82,9 +82,9 @@ fn turn(
     counts: &mut [u64; 21],
 ) -> u8 {
     let mut frame = [0u8; 125];
-    let p = text::input::fill(fd, &mut frame);
+    let p = console::input::fill(fd, &mut frame);
     if p.failed {
-        text::say::say_errno_where(b"night", name, b"offset", done);
+        console::say::say_errno_where(b"night", name, b"offset", done);
         return 2;
     }
     let n = p.count;

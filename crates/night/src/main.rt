@@ -4,22 +4,22 @@ mod issues;
 mod logs;
 mod report;
 
+use console::words::Number;
 use libc::STDERR_FILENO;
-use message::read::Verdict;
-use text::words::Number;
+use verdict::Verdict;
 
 // Whether argument i is a word.
 fn is_arg(i: usize, word: &[u8]) -> bool {
     let mut room = io::buffer();
     let n = os::arg(i, &mut room);
-    text::words::same(&room[..n], word)
+    console::words::same(&room[..n], word)
 }
 
 // The number that argument i says; 0 where it says none below 256.
 fn number_arg(i: usize) -> u8 {
     let mut room = io::buffer();
     let n = os::arg(i, &mut room);
-    let v = text::words::number_of(&room[..n]);
+    let v = console::words::number_of(&room[..n]);
     let Number::Value(x) = v else {
         return 0;
     };
@@ -33,7 +33,7 @@ fn number_arg(i: usize) -> u8 {
 fn say_prn(i: usize) {
     let mut room = io::buffer();
     let n = os::arg(i, &mut room);
-    text::say::say_file(
+    console::say::say_file(
         b"night",
         &room[..n],
         b"no ledger is made for this PRN, only for 1 to 5 and 59 to 63",
@@ -59,7 +59,7 @@ fn run(i: usize, count: usize, each: bool) {
         return;
     }
     let prn = number_arg(i);
-    if !ledger::open::is_prn(prn) {
+    if !frame::is_prn(prn) {
         say_prn(i);
         return;
     }

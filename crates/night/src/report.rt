@@ -1,17 +1,17 @@
 // What stands at the end: the counts, the mask in force and the list.
 ghost use Rattle.io.specs.Counts.{Counts};
+use console::put::put_byte;
+use console::put::put_bytes;
+use console::put::put_field;
+use console::put::put_metres;
+use console::put::put_number;
+use console::put::put_two;
+use console::put::put_ura_mm;
 use libc::STDOUT_FILENO;
 use list::row::Row;
 use list::row::RowAnswer;
 use list::rows::Count;
 use records::slots::System;
-use text::put::put_byte;
-use text::put::put_bytes;
-use text::put::put_field;
-use text::put::put_metres;
-use text::put::put_number;
-use text::put::put_two;
-use text::put::put_ura_mm;
 
 // Refusals 1 to 6 in words.
 fn put_words_low(room: &mut [u8], at: usize, n: u8) -> usize
@@ -124,15 +124,20 @@ fn write_refusals(counts: &[u64; 21]) {
 
 // The line of the mask in force.
 fn write_mask(ledger: &[u8]) {
-    if !mask::has_mask(ledger) {
+    if !held_mask::has_mask(ledger) {
         io::write_all(STDOUT_FILENO, b"mask none\n");
         return;
     }
     let mut room = [0u8; 80];
     let a = put_bytes(&mut room, 0, b"mask");
-    let b = put_field(&mut room, a, b"ssr", mask::mask_ssr(ledger) as u64);
-    let c = put_field(&mut room, b, b"iodp", mask::mask_iodp(ledger) as u64);
-    let d = put_field(&mut room, c, b"satellites", mask::set_count(ledger) as u64);
+    let b = put_field(&mut room, a, b"ssr", held_mask::mask_ssr(ledger) as u64);
+    let c = put_field(&mut room, b, b"iodp", held_mask::mask_iodp(ledger) as u64);
+    let d = put_field(
+        &mut room,
+        c,
+        b"satellites",
+        held_mask::set_count(ledger) as u64,
+    );
     let n = put_byte(&mut room, d, 10);
     io::write_all(STDOUT_FILENO, &room[..n]);
 }

@@ -3,16 +3,16 @@ ghost use Prim.Native.Nat.{_≤_};
 ghost use lib.ListN.{length};
 use crate::place::byte_of;
 use crate::place::short_of;
+use console::words::Number;
+use console::words::Raw;
+use console::words::number_of;
+use console::words::raw_of;
+use console::words::same;
 use records::clock::Clock;
 use records::clock::blank_clock;
 use records::orbit::Orbit;
 use records::orbit::blank_orbit;
 use records::ura::Ura;
-use text::words::Number;
-use text::words::Raw;
-use text::words::number_of;
-use text::words::raw_of;
-use text::words::same;
 
 // A record and whether it was well formed.
 pub struct ClockWord {

@@ -15,6 +15,9 @@ use crate::place::next_is;
 use crate::place::passed;
 use crate::place::short_of;
 use crate::place::start;
+use console::words::Number;
+use console::words::next_word;
+use console::words::number_of;
 use contents::parts::ClockPart;
 use contents::parts::Contents;
 use contents::parts::MaskPart;
@@ -26,9 +29,6 @@ use records::clock::Clock;
 use records::clock::blank_clock;
 use records::orbit::Orbit;
 use records::orbit::blank_orbit;
-use text::words::Number;
-use text::words::next_word;
-use text::words::number_of;
 
 // The keys, by their place in the text of put_key.
 const TYPE: u8 = 1;

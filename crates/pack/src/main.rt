@@ -3,19 +3,19 @@ mod fields;
 mod lines;
 mod place;
 
-ghost use Rattle.text.specs.Lines.{Inside};
+ghost use Rattle.console.specs.Lines.{Inside};
+use console::lines::Lines;
+use console::lines::Step;
+use console::lines::next_line;
+use console::put::put_bytes;
+use console::put::put_number;
+use console::say::say_where;
 use contents::parts::Contents;
 use libc::STDERR_FILENO;
 use libc::STDIN_FILENO;
 use libc::STDOUT_FILENO;
-use message::read::number_of;
 use place::Place;
-use text::lines::Lines;
-use text::lines::Step;
-use text::lines::next_line;
-use text::put::put_bytes;
-use text::put::put_number;
-use text::say::say_where;
+use verdict::number_of;
 
 // A line is refused.
 fn say_refused(name: &[u8], number: u64, n: u8) {
@@ -61,13 +61,13 @@ fn pack_message(name: &[u8], number: u64, s: &[u8]) {
 
 // A line.
 fn pack_line(name: &[u8], number: u64, s: &[u8]) {
-    let w = text::words::next_word(s, 0);
+    let w = console::words::next_word(s, 0);
     let a = w.from;
     let b = w.to;
     if a == b {
         return;
     }
-    if text::words::starts(&s[a..b], b'#') {
+    if console::words::starts(&s[a..b], b'#') {
         return;
     }
     pack_message(name, number, s);
@@ -83,7 +83,7 @@ fn turn(name: &[u8], room: &[u8], l: Lines) -> bool
     match step {
         Step::End => false,
         Step::Failed => {
-            text::say::say_errno_where(b"pack", name, b"line", l.number);
+            console::say::say_errno_where(b"pack", name, b"line", l.number);
             false
         }
         Step::Long => {
@@ -99,7 +99,7 @@ fn turn(name: &[u8], room: &[u8], l: Lines) -> bool
 
 // All lines of an input.
 fn pack_all(fd: i32, name: &[u8], room: &mut [u8]) {
-    let mut l = text::lines::begin();
+    let mut l = console::lines::begin();
     let mut on = true;
     let mut left = u64::MAX;
     while left > 0 && on {
@@ -113,13 +113,13 @@ fn pack_all(fd: i32, name: &[u8], room: &mut [u8]) {
 // The file of a name; - is standard input.
 fn pack_file(name: &[u8]) {
     let mut room = io::large_buffer();
-    if text::words::same(name, b"-") {
+    if console::words::same(name, b"-") {
         pack_all(STDIN_FILENO, name, &mut room);
         return;
     }
     let fd = os::open_read(name);
     if fd < 0 {
-        text::say::say_errno(b"pack", name);
+        console::say::say_errno(b"pack", name);
         return;
     }
     pack_all(fd, name, &mut room);
@@ -134,7 +134,7 @@ fn main() {
     let mut path = io::buffer();
     let n = os::arg(1, &mut path);
     if os::errno() != 0 {
-        text::say::say_errno(b"pack", b"argument");
+        console::say::say_errno(b"pack", b"argument");
         return;
     }
     pack_file(&path[..n]);

@@ -1,10 +1,10 @@
 // Where the reading of a line stands, and what was expected where it failed.
 ghost use Rattle.io.specs.Counts.{Counts};
-use text::put::put_bytes;
-use text::words::Number;
-use text::words::Word;
-use text::words::next_word;
-use text::words::number_of;
+use console::put::put_bytes;
+use console::words::Number;
+use console::words::Word;
+use console::words::next_word;
+use console::words::number_of;
 
 // The place after the last word read, the number of the next word, and what was expected where that is not it (0: no fault).
 pub struct Place {
@@ -114,7 +114,7 @@ pub fn put_expected(room: &mut [u8], at: usize, fault: u8) -> usize
 fn is_key(w: &[u8], k: u8) -> bool {
     let mut room = [0u8; 16];
     let n = put_key(&mut room, 0, k);
-    text::words::same(w, &room[..n])
+    console::words::same(w, &room[..n])
 }
 
 // Whether the next word is a key.

@@ -11,7 +11,7 @@ use borrow.Author.Tests.{eq-eqb, ne-eqb, lt-ltb}
 use Rattle.bits.specs.Bits.{fieldAt}
 use Rattle.bits.proofs.ByteWise.{field-split}
 use Rattle.bits.proofs.Below.{below}
-use Rattle.records.specs.Ura.{quartersOf, uraOf, codeFrom, codeOf}
+use Rattle.records.specs.Ura.{quartersOf, uraOf, codeFrom, codeOf, kindOf, quartersIn, heldUra}
 use Rattle.records.specs.declared.ura.Ura.{Ura}
 use Rattle.records.specs.declared.ura.Ura.the-variants.{Unknown, Quarters, Above}
 
@@ -63,3 +63,9 @@ same code = eqb (codeOf (uraOf code)) code
 pub code-back : (code : ℕ) → code < 64 → codeOf (uraOf code) ≡ code
 unfolding same codeFrom
 code-back code h = eqb→eq (codeOf (uraOf code)) code (below same 64 tt code h)
+
+-- the index of its own kind and quarters
+pub kind-back : (u : Ura) → heldUra (kindOf u) (quartersIn u) ≡ u
+kind-back Unknown = refl
+kind-back (Quarters q) = refl
+kind-back Above = refl

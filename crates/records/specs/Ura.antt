@@ -23,3 +23,19 @@ abbrev pub codeOf : Ura → ℕ
 codeOf Unknown = 0
 codeOf (Quarters q) = codeFrom q 1 62
 codeOf Above = 63
+
+-- FORM: the kind of an index as a byte
+abbrev pub kindOf : Ura → ℕ
+kindOf Unknown = 0
+kindOf (Quarters q) = 1
+kindOf Above = 2
+
+-- FORM: the quarters of an index, 0 where it has none
+abbrev pub quartersIn : Ura → ℕ
+quartersIn Unknown = 0
+quartersIn (Quarters q) = q
+quartersIn Above = 0
+
+-- FORM: the index of a kind byte and quarters; other kinds are unknown
+abbrev pub heldUra : ℕ → ℕ → Ura
+heldUra kind q = pick (eqb kind 1) (Quarters q) (pick (eqb kind 2) Above Unknown)

@@ -1,7 +1,7 @@
 // The accuracy index of an orbit record: 01, "URA".
 ghost use mathlib.Core.Path.{_≡_};
 ghost use Prim.Native.Nat.{_<_};
-ghost use Rattle.records.specs.Ura.{quartersOf, uraOf, codeFrom, codeOf};
+ghost use Rattle.records.specs.Ura.{quartersOf, uraOf, codeFrom, codeOf, kindOf, quartersIn, heldUra};
 
 // Code 0, codes 1 to 62 in quarter millimetres, code 63.
 pub enum Ura {
@@ -59,4 +59,39 @@ pub fn code_of(u: Ura) -> u8
         Ura::Quarters(q) => seek_code(q),
         Ura::Above => 63,
     }
+}
+
+// The kind of an index as a byte: 0 unknown, 1 quarters, 2 above.
+pub fn ura_kind(u: Ura) -> u8
+    ensures { λ r. ⌜ r ≡ kindOf u ⌝ }
+{
+    match u {
+        Ura::Unknown => 0,
+        Ura::Quarters(_) => 1,
+        Ura::Above => 2,
+    }
+}
+
+// The quarters of an index, 0 where it has none.
+pub fn ura_quarters(u: Ura) -> u32
+    ensures { λ r. ⌜ r ≡ quartersIn u ⌝ }
+{
+    match u {
+        Ura::Unknown => 0,
+        Ura::Quarters(q) => q,
+        Ura::Above => 0,
+    }
+}
+
+// The index of a kind byte and quarters; any other kind is unknown.
+pub fn held_ura(kind: u8, q: u32) -> Ura
+    ensures { λ r. ⌜ r ≡ heldUra kind q ⌝ }
+{
+    if kind == 1 {
+        return Ura::Quarters(q);
+    }
+    if kind == 2 {
+        return Ura::Above;
+    }
+    Ura::Unknown
 }

@@ -1,18 +1,18 @@
 // The line of a message's contents.
 ghost use Rattle.io.specs.Counts.{Counts};
+use console::put::place_in;
+use console::put::put_byte;
+use console::put::put_bytes;
+use console::put::put_field;
+use console::put::put_number;
+use console::put::put_signed;
+use console::put::put_ura;
 use contents::parts::ClockPart;
 use contents::parts::Contents;
 use contents::parts::MaskPart;
 use contents::parts::OrbitPart;
 use records::clock::Clock;
 use records::orbit::Orbit;
-use text::put::place_in;
-use text::put::put_byte;
-use text::put::put_bytes;
-use text::put::put_field;
-use text::put::put_number;
-use text::put::put_signed;
-use text::put::put_ura;
 
 // A number after a separator.
 fn put_after(room: &mut [u8], at: usize, separator: u8, x: u64) -> usize

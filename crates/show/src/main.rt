@@ -1,16 +1,16 @@
 // show [-f] FILE: one line for each message of 61 bytes, or for each frame of 125.
 mod lines;
 
+use console::put::put_byte;
+use console::put::put_bytes;
+use console::put::put_detail;
+use console::put::put_number;
 use contents::parts::Contents;
 use libc::STDERR_FILENO;
 use libc::STDIN_FILENO;
 use libc::STDOUT_FILENO;
-use message::read::Verdict;
-use message::read::number_of;
-use text::put::put_byte;
-use text::put::put_bytes;
-use text::put::put_detail;
-use text::put::put_number;
+use verdict::Verdict;
+use verdict::number_of;
 
 // The line of a refusal.
 fn write_refused(v: Verdict) {
@@ -43,7 +43,7 @@ fn write_frame(prn: u8, c: Contents) {
 
 // The line of a message's bytes.
 fn show_message(s: &[u8]) {
-    let r = message::read::read(s);
+    let r = message::read(s);
     let v = r.verdict;
     if number_of(v) == 0 {
         let c = r.contents;
@@ -67,13 +67,13 @@ fn show_frame(s: &[u8]) {
 
 // The file cannot be read at an offset.
 fn say_failed(name: &[u8], done: u64) {
-    text::say::say_errno_where(b"show", name, b"offset", done);
+    console::say::say_errno_where(b"show", name, b"offset", done);
 }
 
 // The next message of a file: 0 to go on, 1 at the end or where the file cannot be read.
 fn turn_message(fd: i32, name: &[u8], done: u64) -> u8 {
     let mut room = [0u8; 61];
-    let p = text::input::fill(fd, &mut room);
+    let p = console::input::fill(fd, &mut room);
     if p.failed {
         say_failed(name, done);
         return 1;
@@ -89,7 +89,7 @@ fn turn_message(fd: i32, name: &[u8], done: u64) -> u8 {
 // The next frame of a file: 0 to go on, 1 at the end or where the file cannot be read.
 fn turn_frame(fd: i32, name: &[u8], done: u64) -> u8 {
     let mut room = [0u8; 125];
-    let p = text::input::fill(fd, &mut room);
+    let p = console::input::fill(fd, &mut room);
     if p.failed {
         say_failed(name, done);
         return 1;
@@ -137,13 +137,13 @@ fn show_all(fd: i32, name: &[u8], frames: bool) {
 
 // The file of a name; - is standard input.
 fn show_file(name: &[u8], frames: bool) {
-    if text::words::same(name, b"-") {
+    if console::words::same(name, b"-") {
         show_all(STDIN_FILENO, name, frames);
         return;
     }
     let fd = os::open_read(name);
     if fd < 0 {
-        text::say::say_errno(b"show", name);
+        console::say::say_errno(b"show", name);
         return;
     }
     show_all(fd, name, frames);
@@ -155,7 +155,7 @@ fn show_arg(i: usize, frames: bool) {
     let mut path = io::buffer();
     let n = os::arg(i, &mut path);
     if os::errno() != 0 {
-        text::say::say_errno(b"show", b"argument");
+        console::say::say_errno(b"show", b"argument");
         return;
     }
     show_file(&path[..n], frames);
@@ -165,7 +165,7 @@ fn show_arg(i: usize, frames: bool) {
 fn is_frames() -> bool {
     let mut room = io::buffer();
     let n = os::arg(1, &mut room);
-    text::words::same(&room[..n], b"-f")
+    console::words::same(&room[..n], b"-f")
 }
 
 fn main() {

@@ -15,10 +15,10 @@ use Rattle.bits.specs.Bits.{Within}
 use Rattle.records.specs.Orbit.{orbitWidths}
 use Rattle.records.specs.Clock.{clockWidths}
 use Rattle.records.specs.declared.clock.Clock.{Clock}
-use Rattle.contents.specs.Layout.{partWidths}
-use Rattle.contents.specs.declared.layout.Layout.{Layout}
+use Rattle.layout.specs.Layout.{partWidths}
+use Rattle.layout.specs.declared.Layout.{Layout}
 use Rattle.contents.specs.declared.parts.Contents.{Contents}
-use Rattle.canon.specs.Canon.{layoutFor}
+use Rattle.canonical.specs.Canon.{layoutFor}
 use Rattle.writing.specs.Fits.{eight, clockVals, headVals, clockRow, orbitRow, fits, allFit, fitsAll}
 
 -- both of two tests that hold together

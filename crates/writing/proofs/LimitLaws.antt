@@ -10,13 +10,13 @@ use lib.Seq.{getD-drop}
 use native.Mathlib.Decide.{ℕ-discrete, decLt}
 use native.Mathlib.Omega.{arith}
 use borrow.Author.Tests.{eq-eqb, ne-eqb, lt-ltb, le-ltb, ltb-false, not-false}
-use Rattle.bits.specs.Some.{some}
+use Rattle.bits.specs.Some.{anyOf}
 use Rattle.records.specs.Orbit.{blankOrbit, orbitWidths}
 use Rattle.records.specs.Clock.{blankClock, clockWidths}
-use Rattle.contents.specs.Layout.{partWidths, endOf}
-use Rattle.message.specs.Judge.{clockSlots, orbitSlots, isKind, tooLong, late, isHigh, badStart, highSlot, isAgain, twice, isSet, reservedBit, refusalOf}
+use Rattle.layout.specs.Layout.{partWidths, endOf}
+use Rattle.judge.specs.Judge.{clockSlots, orbitSlots, isKind, tooLong, late, isHigh, badStart, highSlot, isAgain, twice, isSet, reservedBit, refusalOf}
 use Rattle.contents.specs.declared.parts.Contents.{Contents}
-use Rattle.canon.specs.Canon.{layoutFor, canon}
+use Rattle.canonical.specs.Canon.{layoutFor, canon}
 use Rattle.writing.specs.Fits.{clockRow, orbitRow, fitsAll}
 use Rattle.writing.specs.Limits.{Once, Limits}
 use Rattle.writing.specs.Write.{contentRefusal, writeRefusal}
@@ -47,19 +47,19 @@ limits-fit c h =
     )
 
 module _ (c : Contents) (h : Limits c) where
-  clocks-low : some isHigh (clockSlots (c .clock .clocks)) ≡ false
+  clocks-low : anyOf isHigh (clockSlots (c .clock .clocks)) ≡ false
   unfolding clockSlots
   clocks-low = low-found (clockSlot c) 23 (λ i b. slot-low (layoutFor c .slotted) (clockSlot c i) (h .clocks i b .slot))
 
-  orbits-low : some isHigh (orbitSlots (c .orbit .orbits)) ≡ false
+  orbits-low : anyOf isHigh (orbitSlots (c .orbit .orbits)) ≡ false
   unfolding orbitSlots
   orbits-low = low-found (orbitSlot c) 6 (λ i b. h .orbits i b .slot)
 
-  clocks-single : some isAgain (clockSlots (c .clock .clocks)) ≡ false
+  clocks-single : anyOf isAgain (clockSlots (c .clock .clocks)) ≡ false
   unfolding clockSlots
   clocks-single = single-found (clockSlot c) 23 (h .clocks-once)
 
-  orbits-single : some isAgain (orbitSlots (c .orbit .orbits)) ≡ false
+  orbits-single : anyOf isAgain (orbitSlots (c .orbit .orbits)) ≡ false
   unfolding orbitSlots
   orbits-single = single-found (orbitSlot c) 6 (h .orbits-once)
 
@@ -74,7 +74,7 @@ module _ (c : Contents) (h : Limits c) where
       (λ n. rw (eq-eqb (c .kind) 6 e, le-ltb 0 (c .clock .count) (omega arith))))
       (λ n. rw (ne-eqb (c .kind) 6 n))
 
-  reserved-clear : some isSet (drop 174 (c .mask .bits)) ≡ false
+  reserved-clear : anyOf isSet (drop 174 (c .mask .bits)) ≡ false
   reserved-clear =
       none-found isSet false (drop 174 (c .mask .bits))
       (λ i l. getD-drop 174 (c .mask .bits) i false ∙ h .reserved (174 + i) (omega arith))
@@ -118,19 +118,19 @@ reserved-right c e i l =
     ∙ found-none isSet false (drop 174 bs) e (i - 174) (omega (arith, length-drop 174 bs)))
     (λ n. List·getD-eq-default bs false (omega arith))
 
-found-clocks : (c : Contents) → some isHigh (clockSlots (c .clock .clocks)) ≡ false → (i : ℕ) → i < 23 → clockSlot c i ≤ 255
+found-clocks : (c : Contents) → anyOf isHigh (clockSlots (c .clock .clocks)) ≡ false → (i : ℕ) → i < 23 → clockSlot c i ≤ 255
 unfolding clockSlots
 found-clocks c e = found-low (clockSlot c) 23 e
 
-found-orbits : (c : Contents) → some isHigh (orbitSlots (c .orbit .orbits)) ≡ false → (i : ℕ) → i < 6 → orbitSlot c i ≤ 255
+found-orbits : (c : Contents) → anyOf isHigh (orbitSlots (c .orbit .orbits)) ≡ false → (i : ℕ) → i < 6 → orbitSlot c i ≤ 255
 unfolding orbitSlots
 found-orbits c e = found-low (orbitSlot c) 6 e
 
-once-clocks : (c : Contents) → some isAgain (clockSlots (c .clock .clocks)) ≡ false → Once 23 (clockSlot c)
+once-clocks : (c : Contents) → anyOf isAgain (clockSlots (c .clock .clocks)) ≡ false → Once 23 (clockSlot c)
 unfolding clockSlots
 once-clocks c e = found-single (clockSlot c) 23 e
 
-once-orbits : (c : Contents) → some isAgain (orbitSlots (c .orbit .orbits)) ≡ false → Once 6 (orbitSlot c)
+once-orbits : (c : Contents) → anyOf isAgain (orbitSlots (c .orbit .orbits)) ≡ false → Once 6 (orbitSlot c)
 unfolding orbitSlots
 once-orbits c e = found-single (orbitSlot c) 6 e
 
@@ -155,12 +155,12 @@ content-limits c e =
     let m = ltb 86399 (c .mask .epoch) in
     let n = ltb 86399 (c .clock .epoch) in
     let mn = or-left (m || n) (ltb 86399 (c .orbit .epoch)) (j .2) in
-    let hk = some isHigh (clockSlots (c .clock .clocks)) in
-    let ho = some isHigh (orbitSlots (c .orbit .orbits)) in
+    let hk = anyOf isHigh (clockSlots (c .clock .clocks)) in
+    let ho = anyOf isHigh (orbitSlots (c .orbit .orbits)) in
     let bad = badStart (c .kind) (c .clock .count) (c .clock .start) in
     let high = or-left (hk || ho) bad (j .3) in
-    let ak = some isAgain (clockSlots (c .clock .clocks)) in
-    let ao = some isAgain (orbitSlots (c .orbit .orbits)) in
+    let ak = anyOf isAgain (clockSlots (c .clock .clocks)) in
+    let ao = anyOf isAgain (orbitSlots (c .orbit .orbits)) in
     record {
       kind = j .0;
       end = j .1;

@@ -14,13 +14,13 @@ use Rattle.bits.specs.Bits.{fieldAt, putAt, fieldsAt, putsAt, Within}
 use Rattle.bits.proofs.RowLaws.{fields-puts}
 use Rattle.records.specs.Orbit.{orbitWidths}
 use Rattle.records.specs.Clock.{clockWidths}
-use Rattle.contents.specs.Layout.{partWidths, orbitsFrom, endOf}
+use Rattle.layout.specs.Layout.{partWidths, orbitsFrom, endOf}
 use Rattle.contents.specs.Parts.{noMask, maskIn, clocksIn, orbitsIn, layoutAt, contentsAt}
-use Rattle.message.specs.Judge.{refusalOf}
-use Rattle.contents.specs.declared.layout.Layout.{Layout}
+use Rattle.judge.specs.Judge.{refusalOf}
+use Rattle.layout.specs.declared.Layout.{Layout}
 use Rattle.contents.specs.declared.parts.Contents.{Contents}
-use Rattle.canon.specs.Canon.{canonClocks, canonOrbits, layoutFor, canon}
-use Rattle.canon.proofs.KindLaws.{Headed, headed, Alone, alone, layout-same}
+use Rattle.canonical.specs.Canon.{canonClocks, canonOrbits, layoutFor, canon}
+use Rattle.canonical.proofs.KindLaws.{Headed, headed, Alone, alone, layout-same}
 use Rattle.writing.specs.Fits.{clockRow, orbitRow, fitsAll}
 use Rattle.writing.specs.Write.{headPut, maskPut, clocksPut, orbitsPut, partsPut, checkPut}
 use Rattle.writing.proofs.FitLaws.{Parts, fit-parts, not-so, fits-within, all-fit}

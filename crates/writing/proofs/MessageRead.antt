@@ -12,15 +12,16 @@ use Rattle.bits.specs.Bits.{bitAt, fieldAt}
 use Rattle.bits.proofs.TableLaws.{length-table}
 use Rattle.check24.specs.Check.{checkOk}
 use Rattle.contents.specs.Parts.{noMask, maskBitAt, maskBitsAt, maskPartAt, maskIn, layoutAt, contentsAt}
-use Rattle.message.specs.Judge.{refusalOf}
-use Rattle.message.specs.Read.{numberOf, answer, readMessage}
+use Rattle.judge.specs.Judge.{refusalOf}
+use Rattle.verdict.specs.Verdict.{numberOf}
+use Rattle.message.specs.Read.{answer, readMessage}
 use Rattle.contents.specs.declared.parts.MaskPart.{MaskPart}
 use Rattle.contents.specs.declared.parts.Contents.{Contents}
-use Rattle.message.specs.declared.read.Verdict.the-variants.{Taken}
-use Rattle.contents.proofs.LayoutLaws.{pick-all}
-use Rattle.message.proofs.ReadLaws.{number-back, number-last}
-use Rattle.canon.specs.Canon.{layoutFor, canon}
-use Rattle.canon.proofs.CanonLaws.{canon-twice}
+use Rattle.verdict.specs.declared.Verdict.the-variants.{Taken}
+use Rattle.layout.proofs.LayoutLaws.{pick-all}
+use Rattle.verdict.proofs.NumberLaws.{number-back, number-last}
+use Rattle.canonical.specs.Canon.{layoutFor, canon}
+use Rattle.canonical.proofs.CanonLaws.{canon-twice}
 use Rattle.writing.specs.Fits.{fitsAll}
 use Rattle.writing.specs.Write.{partsPut, checkPut, messageOf, contentRefusal, written}
 use Rattle.writing.proofs.BesideLaws.{Beside, beside-field}

@@ -16,14 +16,14 @@ use Rattle.bits.proofs.RowLaws.{fields-puts, rows-back, length-puts}
 use Rattle.bits.proofs.TableLaws.{table-ext, table-same}
 use Rattle.records.specs.Orbit.{blankOrbit, orbitWidths, orbitOf}
 use Rattle.records.specs.Clock.{blankClock, clockWidths, clockOf}
-use Rattle.contents.specs.Layout.{partWidths, orbitsFrom, endOf}
+use Rattle.layout.specs.Layout.{partWidths, orbitsFrom, endOf}
 use Rattle.contents.specs.Parts.{maskBitAt, maskBitsAt, maskPartAt, clockNth, clocksAt, clockPartAt, orbitNth, orbitsAt, orbitPartAt}
-use Rattle.contents.specs.declared.layout.Layout.{Layout}
+use Rattle.layout.specs.declared.Layout.{Layout}
 use Rattle.contents.specs.declared.parts.MaskPart.{MaskPart}
 use Rattle.contents.specs.declared.parts.ClockPart.{ClockPart}
 use Rattle.contents.specs.declared.parts.OrbitPart.{OrbitPart}
-use Rattle.contents.proofs.LayoutLaws.{from-some, clock-total}
-use Rattle.canon.specs.Canon.{canonClockNth, canonClockRows, canonClocks, canonOrbitNth, canonOrbitRows, canonOrbits}
+use Rattle.layout.proofs.LayoutLaws.{from-some, clock-total}
+use Rattle.canonical.specs.Canon.{canonClockNth, canonClockRows, canonClocks, canonOrbitNth, canonOrbitRows, canonOrbits}
 use Rattle.writing.specs.Fits.{headVals, clockRow, orbitRow}
 use Rattle.writing.specs.Write.{maskWidths, maskRow, maskPut, clocksPut, orbitsPut}
 use Rattle.writing.proofs.BesideLaws.{Beside, rows-beside, beside-fields}

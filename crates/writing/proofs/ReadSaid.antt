@@ -17,14 +17,14 @@ use Rattle.records.specs.Clock.{blankClock, clockWidths, clockAt}
 use Rattle.records.specs.declared.orbit.Orbit.{Orbit}
 use Rattle.records.specs.declared.clock.Clock.{Clock}
 use Rattle.records.proofs.UraLaws.{code-back}
-use Rattle.contents.specs.Layout.{partWidths, orbitsFrom}
+use Rattle.layout.specs.Layout.{partWidths, orbitsFrom}
 use Rattle.contents.specs.Parts.{clockNth, clocksAt, orbitNth, orbitsAt, noMask, noClocks, noOrbits, maskPartAt, clockPartAt, orbitPartAt, maskIn, clocksIn, orbitsIn, layoutAt, contentsAt}
-use Rattle.contents.specs.declared.layout.Layout.{Layout}
+use Rattle.layout.specs.declared.Layout.{Layout}
 use Rattle.contents.specs.declared.parts.MaskPart.{MaskPart}
 use Rattle.contents.specs.declared.parts.ClockPart.{ClockPart}
 use Rattle.contents.specs.declared.parts.OrbitPart.{OrbitPart}
-use Rattle.contents.proofs.LayoutLaws.{pick-all}
-use Rattle.canon.proofs.CanonLaws.{layout-read}
+use Rattle.layout.proofs.LayoutLaws.{pick-all}
+use Rattle.canonical.proofs.CanonLaws.{layout-read}
 use Rattle.writing.specs.Fits.{clockVals, orbitVals, headVals, clockRow, orbitRow, fitsAll}
 use Rattle.writing.proofs.RawLaws.{raw-or-read}
 use Rattle.writing.proofs.FitLaws.{within-fits, all-fits, parts-fit}

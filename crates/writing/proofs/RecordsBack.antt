@@ -16,7 +16,7 @@ use Rattle.records.specs.Clock.{clockWidths, clockOf}
 use Rattle.records.specs.declared.orbit.Orbit.{Orbit}
 use Rattle.records.specs.declared.clock.Clock.{Clock}
 use Rattle.records.proofs.UraLaws.{ura-back}
-use Rattle.canon.specs.Canon.{canonClock, canonOrbit}
+use Rattle.canonical.specs.Canon.{canonClock, canonOrbit}
 use Rattle.writing.specs.Fits.{rawOr, clockVals, orbitVals}
 use Rattle.writing.proofs.RawLaws.{raw-back}
 

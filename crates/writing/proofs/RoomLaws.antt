@@ -12,7 +12,7 @@ use Rattle.bits.specs.Table.{table}
 use Rattle.bits.proofs.TableLaws.{length-table, getD-table}
 use Rattle.records.specs.Clock.{clockWidths}
 use Rattle.records.specs.declared.clock.Clock.{Clock}
-use Rattle.contents.proofs.LayoutLaws.{clock-total}
+use Rattle.layout.proofs.LayoutLaws.{clock-total}
 use Rattle.writing.specs.Fits.{eight, clockVals}
 
 -- a table of one element

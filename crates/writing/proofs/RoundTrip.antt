@@ -8,10 +8,10 @@ use Rattle.bits.specs.Bits.{bitAt}
 use Rattle.contents.specs.Parts.{contentsAt}
 use Rattle.message.specs.Read.{answer, readMessage}
 use Rattle.contents.specs.declared.parts.Contents.{Contents}
-use Rattle.message.specs.declared.read.Reading.{Reading}
-use Rattle.message.specs.declared.read.Verdict.the-variants.{Taken}
-use Rattle.canon.specs.Canon.{canon}
-use Rattle.canon.proofs.CanonLaws.{canon-read, layout-read}
+use Rattle.message.specs.declared.Reading.{Reading}
+use Rattle.verdict.specs.declared.Verdict.the-variants.{Taken}
+use Rattle.canonical.specs.Canon.{canon}
+use Rattle.canonical.proofs.CanonLaws.{canon-read, layout-read}
 use Rattle.writing.specs.Write.{contentRefusal, writeRefusal, written}
 use Rattle.writing.proofs.TakenLaws.{content-ok, judged}
 use Rattle.writing.proofs.WriteLaws.{refuses-content, write-taken, written-taken}

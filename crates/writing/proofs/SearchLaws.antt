@@ -11,10 +11,10 @@ use native.Mathlib.Nat.{not-suc-le-zero, le-of-suc-le-suc}
 use native.Mathlib.Decide.{ℕ-discrete}
 use native.Mathlib.Omega.{arith}
 use borrow.Author.Tests.{eq-eqb, ne-eqb, le-ltb, ltb-false}
-use Rattle.bits.specs.Some.{some}
+use Rattle.bits.specs.Some.{anyOf}
 use Rattle.bits.specs.Table.{table}
 use Rattle.bits.proofs.TableLaws.{length-table, getD-table}
-use Rattle.message.specs.Judge.{isHigh, isSame, isAgain}
+use Rattle.judge.specs.Judge.{isHigh, isSame, isAgain}
 use Rattle.writing.specs.Limits.{Once}
 
 pub or-left : (a b : Bool) → (a || b) ≡ false → a ≡ false
@@ -27,28 +27,28 @@ or-right false b e = e
 
 module _ {A : Type 0} (p : A → List A → Bool) (z : A) where
   -- no element has the property: it is not found
-  pub none-found : (xs : List A) → ((i : ℕ) → i < length xs → p (getD xs i z) (drop (suc i) xs) ≡ false) → some p xs ≡ false
-  unfolding some
+  pub none-found : (xs : List A) → ((i : ℕ) → i < length xs → p (getD xs i z) (drop (suc i) xs) ≡ false) → anyOf p xs ≡ false
+  unfolding anyOf
   none-found [] h = refl
   none-found (x ∷ xs) h =
       let a : p x xs ≡ false = h 0 (omega arith) in
       rw a (none-found xs (λ i l. h (suc i) (omega arith)))
 
   -- not found: no element has it
-  pub found-none : (xs : List A) → some p xs ≡ false → (i : ℕ) → i < length xs → p (getD xs i z) (drop (suc i) xs) ≡ false
-  unfolding some
+  pub found-none : (xs : List A) → anyOf p xs ≡ false → (i : ℕ) → i < length xs → p (getD xs i z) (drop (suc i) xs) ≡ false
+  unfolding anyOf
   found-none [] e i h = absurd (not-suc-le-zero h)
-  found-none (x ∷ xs) e zero h = or-left (p x xs) (some p xs) e
-  found-none (x ∷ xs) e (suc i) h = found-none xs (or-right (p x xs) (some p xs) e) i (le-of-suc-le-suc h)
+  found-none (x ∷ xs) e zero h = or-left (p x xs) (anyOf p xs) e
+  found-none (x ∷ xs) e (suc i) h = found-none xs (or-right (p x xs) (anyOf p xs) e) i (le-of-suc-le-suc h)
 
 -- ---- 01, 12: a slot that is not blank stands once
-again-not : (x : ℕ) (rest : List ℕ) → (x ≢ 0 → some (isSame x) rest ≡ false) → isAgain x rest ≡ false
+again-not : (x : ℕ) (rest : List ℕ) → (x ≢ 0 → anyOf (isSame x) rest ≡ false) → isAgain x rest ≡ false
 again-not x rest h = dite (ℕ-discrete x 0) (λ e. rw (eq-eqb x 0 e)) (λ n. rw (ne-eqb x 0 n) (h n))
 
-not-again : (x : ℕ) (rest : List ℕ) → isAgain x rest ≡ false → x ≢ 0 → some (isSame x) rest ≡ false
+not-again : (x : ℕ) (rest : List ℕ) → isAgain x rest ≡ false → x ≢ 0 → anyOf (isSame x) rest ≡ false
 not-again x rest e n = rw (ne-eqb x 0 n) at e
 
-once-found : (xs : List ℕ) → ((i j : ℕ) → i < j → j < length xs → getD xs i 0 ≢ 0 → getD xs j 0 ≢ getD xs i 0) → some isAgain xs ≡ false
+once-found : (xs : List ℕ) → ((i j : ℕ) → i < j → j < length xs → getD xs i 0 ≢ 0 → getD xs j 0 ≢ getD xs i 0) → anyOf isAgain xs ≡ false
 once-found xs h =
     none-found isAgain 0 xs
     (λ i l.
@@ -61,7 +61,7 @@ once-found xs h =
 pub eqb-no : (a b : ℕ) → eqb a b ≡ false → a ≢ b
 eqb-no a b e q = true≢false (sym (eq-eqb a b q) ∙ e)
 
-found-once : (xs : List ℕ) → some isAgain xs ≡ false → (i j : ℕ) → i < j → j < length xs → getD xs i 0 ≢ 0 → getD xs j 0 ≢ getD xs i 0
+found-once : (xs : List ℕ) → anyOf isAgain xs ≡ false → (i j : ℕ) → i < j → j < length xs → getD xs i 0 ≢ 0 → getD xs j 0 ≢ getD xs i 0
 found-once xs e i j l h n q =
     let x = getD xs i 0 in
     let k = j - suc i in
@@ -71,26 +71,26 @@ found-once xs e i j l h n q =
     (getD-drop (suc i) xs k 0 ∙ ap (λ (m : ℕ). getD xs m 0) g ∙ q)
 
 -- ---- 01, 11 and 12, of slots in a table
-pub low-found : (f : ℕ → ℕ) (n : ℕ) → ((i : ℕ) → i < n → f i ≤ 255) → some isHigh (table f n) ≡ false
+pub low-found : (f : ℕ → ℕ) (n : ℕ) → ((i : ℕ) → i < n → f i ≤ 255) → anyOf isHigh (table f n) ≡ false
 low-found f n h =
     none-found isHigh 0 (table f n)
     (λ i l.
     let b : i < n = omega (arith, length-table f n) in
     rw (getD-table f n i 0 b) (le-ltb 255 (f i) (h i b)))
 
-pub found-low : (f : ℕ → ℕ) (n : ℕ) → some isHigh (table f n) ≡ false → (i : ℕ) → i < n → f i ≤ 255
+pub found-low : (f : ℕ → ℕ) (n : ℕ) → anyOf isHigh (table f n) ≡ false → (i : ℕ) → i < n → f i ≤ 255
 found-low f n e i l =
     let h : i < length (table f n) = omega (arith, length-table f n) in
     ltb-false 255 (f i) (rw (getD-table f n i 0 l) at (found-none isHigh 0 (table f n) e i h))
 
-pub single-found : (f : ℕ → ℕ) (n : ℕ) → Once n f → some isAgain (table f n) ≡ false
+pub single-found : (f : ℕ → ℕ) (n : ℕ) → Once n f → anyOf isAgain (table f n) ≡ false
 single-found f n h =
     once-found (table f n)
     (λ i j l b.
     let k : j < n = omega (arith, length-table f n) in
     rw (getD-table f n i 0 (omega arith), getD-table f n j 0 k) (h i j l k))
 
-pub found-single : (f : ℕ → ℕ) (n : ℕ) → some isAgain (table f n) ≡ false → Once n f
+pub found-single : (f : ℕ → ℕ) (n : ℕ) → anyOf isAgain (table f n) ≡ false → Once n f
 found-single f n e i j l b =
     let h : j < length (table f n) = omega (arith, length-table f n) in
     rw (getD-table f n i 0 (omega arith), getD-table f n j 0 b) at (found-once (table f n) e i j l h)

@@ -10,13 +10,13 @@ use Rattle.bits.specs.Pick.{pick}
 use Rattle.bits.specs.Bits.{putsAt, putRows, total}
 use Rattle.records.specs.Orbit.{orbitWidths}
 use Rattle.records.specs.Clock.{clockWidths}
-use Rattle.contents.specs.Layout.{partWidths, orbitsFrom, endOf}
-use Rattle.contents.specs.declared.layout.Layout.{Layout}
+use Rattle.layout.specs.Layout.{partWidths, orbitsFrom, endOf}
+use Rattle.layout.specs.declared.Layout.{Layout}
 use Rattle.contents.specs.declared.parts.MaskPart.{MaskPart}
 use Rattle.contents.specs.declared.parts.ClockPart.{ClockPart}
 use Rattle.contents.specs.declared.parts.OrbitPart.{OrbitPart}
-use Rattle.contents.proofs.LayoutLaws.{clock-total}
-use Rattle.canon.proofs.KindLaws.{Headed}
+use Rattle.layout.proofs.LayoutLaws.{clock-total}
+use Rattle.canonical.proofs.KindLaws.{Headed}
 use Rattle.writing.specs.Fits.{clockRow, orbitRow}
 use Rattle.writing.specs.Write.{headPut, maskWidths, maskRow, maskPut, clocksPut, orbitsPut}
 use Rattle.writing.proofs.BesideLaws.{Beside, beside-same, beside-then, beside-wide, beside-pick, puts-beside, rows-beside}

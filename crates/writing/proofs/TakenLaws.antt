@@ -8,13 +8,13 @@ use native.Mathlib.Decide.{ℕ-discrete, decLt}
 use native.Mathlib.Omega.{arith}
 use borrow.Author.Tests.{eq-eqb, ne-eqb, ltb-false, not-false}
 use Rattle.bits.specs.Pick.{pick}
-use Rattle.contents.specs.Layout.{layoutOf, orbitsFrom, endOf}
-use Rattle.message.specs.Judge.{isKind, tooLong, refusalOf}
-use Rattle.contents.specs.declared.layout.Layout.{Layout}
+use Rattle.layout.specs.Layout.{layoutOf, orbitsFrom, endOf}
+use Rattle.judge.specs.Judge.{isKind, tooLong, refusalOf}
+use Rattle.layout.specs.declared.Layout.{Layout}
 use Rattle.contents.specs.declared.parts.Contents.{Contents}
-use Rattle.contents.proofs.LayoutLaws.{pick-all, from-some, layout-narrow}
-use Rattle.canon.specs.Canon.{layoutFor}
-use Rattle.canon.proofs.KindLaws.{headed}
+use Rattle.layout.proofs.LayoutLaws.{pick-all, from-some, layout-narrow}
+use Rattle.canonical.specs.Canon.{layoutFor}
+use Rattle.canonical.proofs.KindLaws.{headed}
 use Rattle.writing.specs.Fits.{fitsAll}
 use Rattle.writing.specs.Write.{contentRefusal}
 

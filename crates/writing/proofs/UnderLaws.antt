@@ -17,14 +17,14 @@ use Rattle.bits.proofs.PutLaws.{bit-set-same, bit-set-other}
 use Rattle.bits.proofs.TableLaws.{getD-table}
 use Rattle.records.specs.Orbit.{orbitWidths}
 use Rattle.records.specs.Clock.{clockWidths}
-use Rattle.contents.specs.Layout.{partWidths, orbitsFrom, endOf}
+use Rattle.layout.specs.Layout.{partWidths, orbitsFrom, endOf}
 use Rattle.contents.specs.Parts.{noMask, maskBitAt, maskBitsAt, maskPartAt, maskIn, clocksIn, orbitsIn, layoutAt, contentsAt}
-use Rattle.contents.specs.declared.layout.Layout.{Layout}
+use Rattle.layout.specs.declared.Layout.{Layout}
 use Rattle.contents.specs.declared.parts.MaskPart.{MaskPart}
-use Rattle.contents.proofs.LayoutLaws.{pick-all, clock-total}
-use Rattle.canon.specs.Canon.{layoutFor}
-use Rattle.canon.proofs.CanonLaws.{layout-read}
-use Rattle.canon.proofs.KindLaws.{Headed, headed, counted}
+use Rattle.layout.proofs.LayoutLaws.{pick-all, clock-total}
+use Rattle.canonical.specs.Canon.{layoutFor}
+use Rattle.canonical.proofs.CanonLaws.{layout-read}
+use Rattle.canonical.proofs.KindLaws.{Headed, headed, counted}
 use Rattle.writing.specs.Fits.{headVals, clockRow, orbitRow}
 use Rattle.writing.specs.Write.{headPut, maskWidths, maskRow, maskPut, clocksPut, orbitsPut, partsPut, messageOf, written}
 use Rattle.writing.proofs.CheckBack.{check-beside}

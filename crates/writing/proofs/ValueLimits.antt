@@ -18,7 +18,7 @@ use Rattle.records.specs.declared.ura.Ura.the-variants.{Unknown, Quarters, Abov
 use Rattle.records.specs.declared.orbit.Orbit.{Orbit}
 use Rattle.records.specs.declared.clock.Clock.{Clock}
 use Rattle.records.proofs.UraLaws.{code-right}
-use Rattle.contents.specs.Layout.{partWidths}
+use Rattle.layout.specs.Layout.{partWidths}
 use Rattle.writing.specs.Fits.{clockVals, orbitVals, headVals}
 use Rattle.writing.specs.Limits.{Ranged, Coded, HeadLimits, ClockLimits, OrbitLimits}
 use Rattle.writing.proofs.RawLaws.{raw-or-lt, raw-or-mag}

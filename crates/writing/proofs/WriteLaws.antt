@@ -7,10 +7,10 @@ use lib.ListN.{length, replicate}
 use native.Mathlib.Decide.{ℕ-discrete}
 use native.Mathlib.Omega.{arith}
 use borrow.Author.Tests.{eq-eqb, ne-eqb}
-use Rattle.contents.specs.declared.layout.Layout.{Layout}
+use Rattle.layout.specs.declared.Layout.{Layout}
 use Rattle.contents.specs.declared.parts.Contents.{Contents}
-use Rattle.message.proofs.ReadLaws.{number-last}
-use Rattle.canon.specs.Canon.{layoutFor, canon}
+use Rattle.verdict.proofs.NumberLaws.{number-last}
+use Rattle.canonical.specs.Canon.{layoutFor, canon}
 use Rattle.writing.specs.Write.{partsPut, checkPut, messageOf, contentRefusal, writeRefusal, written}
 
 -- 01, 1: a room that is not 61 bytes

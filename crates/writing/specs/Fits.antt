@@ -13,9 +13,9 @@ use Rattle.records.specs.Orbit.{blankOrbit, orbitWidths}
 use Rattle.records.specs.Clock.{blankClock, clockWidths}
 use Rattle.records.specs.declared.orbit.Orbit.{Orbit}
 use Rattle.records.specs.declared.clock.Clock.{Clock}
-use Rattle.contents.specs.Layout.{partWidths}
+use Rattle.layout.specs.Layout.{partWidths}
 use Rattle.contents.specs.declared.parts.Contents.{Contents}
-use Rattle.canon.specs.Canon.{layoutFor}
+use Rattle.canonical.specs.Canon.{layoutFor}
 
 -- a row of at most eight, filled up with zeros
 abbrev pub eight : List ℕ → List ℕ

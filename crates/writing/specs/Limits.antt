@@ -13,10 +13,10 @@ use Rattle.records.specs.declared.ura.Ura.{Ura}
 use Rattle.records.specs.declared.ura.Ura.the-variants.{Unknown, Quarters, Above}
 use Rattle.records.specs.declared.orbit.Orbit.{Orbit}
 use Rattle.records.specs.declared.clock.Clock.{Clock}
-use Rattle.contents.specs.Layout.{endOf}
-use Rattle.message.specs.Judge.{isKind}
+use Rattle.layout.specs.Layout.{endOf}
+use Rattle.judge.specs.Judge.{isKind}
 use Rattle.contents.specs.declared.parts.Contents.{Contents}
-use Rattle.canon.specs.Canon.{layoutFor}
+use Rattle.canonical.specs.Canon.{layoutFor}
 
 -- 01: two's complement of n bits, the whole range: from -2 ^ (n - 1), which is -1 - (2 ^ (n - 1) - 1), to 2 ^ (n - 1) - 1
 abbrev pub Ranged : ℕ → ℤ → Type 0

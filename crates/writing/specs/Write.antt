@@ -10,14 +10,14 @@ use Rattle.bits.specs.Some.{first}
 use Rattle.check24.specs.Check.{checkOf}
 use Rattle.records.specs.Orbit.{orbitWidths}
 use Rattle.records.specs.Clock.{clockWidths}
-use Rattle.contents.specs.Layout.{partWidths, orbitsFrom}
-use Rattle.message.specs.Judge.{refusalOf}
-use Rattle.contents.specs.declared.layout.Layout.{Layout}
+use Rattle.layout.specs.Layout.{partWidths, orbitsFrom}
+use Rattle.judge.specs.Judge.{refusalOf}
+use Rattle.layout.specs.declared.Layout.{Layout}
 use Rattle.contents.specs.declared.parts.MaskPart.{MaskPart}
 use Rattle.contents.specs.declared.parts.ClockPart.{ClockPart}
 use Rattle.contents.specs.declared.parts.OrbitPart.{OrbitPart}
 use Rattle.contents.specs.declared.parts.Contents.{Contents}
-use Rattle.canon.specs.Canon.{layoutFor, canon}
+use Rattle.canonical.specs.Canon.{layoutFor, canon}
 use Rattle.writing.specs.Fits.{headVals, clockRow, orbitRow, fitsAll}
 
 -- 01: type [6]; in types 6 and 7 NumC [5], NumO [3]

@@ -7,20 +7,20 @@ ghost use lib.Signed.{mag};
 ghost use Rattle.bits.specs.Bits.{putsAt, putRows};
 ghost use Rattle.records.specs.Orbit.{orbitWidths};
 ghost use Rattle.records.specs.Clock.{clockWidths};
-ghost use Rattle.contents.specs.Layout.{partWidths};
-ghost use Rattle.message.specs.Read.{verdictOf};
+ghost use Rattle.layout.specs.Layout.{partWidths};
+ghost use Rattle.verdict.specs.Verdict.{verdictOf};
 ghost use Rattle.writing.specs.Fits.{eight, rawOr, clockVals, orbitVals, headVals, clockRow, orbitRow, fits, allFit, fitsAll};
 ghost use Rattle.writing.specs.Write.{headPut, maskWidths, maskRow, maskPut, clocksPut, orbitsPut, partsPut, checkPut, messageOf, contentRefusal, writeRefusal, written};
-use contents::layout::Layout;
-use contents::layout::layout_of;
-use contents::layout::orbits_from;
+use layout::Layout;
+use layout::layout_of;
+use layout::orbits_from;
 use contents::parts::ClockPart;
 use contents::parts::Contents;
 use contents::parts::MaskPart;
 use contents::parts::OrbitPart;
-use message::read::Verdict;
 use records::clock::Clock;
 use records::orbit::Orbit;
+use verdict::Verdict;
 
 // How far a number lies from 0, or from -1 downwards.
 fn size(z: i16) -> u64
@@ -201,22 +201,11 @@ fn all_fields_fit(c: Contents) -> bool
 fn content_refusal(c: Contents) -> u8
     ensures { λ r. ⌜ r ≡ contentRefusal c ⌝ }
 {
-    let n = message::judge::refusal_of(c);
+    let n = judge::refusal_of(c);
     if n != 0 {
         return n;
     }
     if all_fields_fit(c) { 0 } else { 16 }
-}
-
-// Every byte is made 0.
-fn clear(t: &mut [u8])
-    ensures { λ r. ⌜ now (t .exit) ≡ replicate (length (now (t .entry))) 0 ⌝ }
-{
-    let mut i: usize = 0;
-    while i < t.len() {
-        t[i] = 0;
-        i += 1;
-    }
 }
 
 // The type and, in types 6 and 7, the counts are put.
@@ -237,7 +226,7 @@ fn put_bits(room: &mut [u8], at: u32, bits: [bool; 255])
     let mut i: u32 = 0;
     while i < 255 {
         let b = bits[i as usize];
-        bits::put(room, (at + i) as usize, 1, store::flag(b) as u64);
+        bits::put(room, (at + i) as usize, 1, lent::flag(b) as u64);
         i += 1;
     }
 }
@@ -354,7 +343,7 @@ fn put_message(room: &mut [u8], c: Contents)
     let k = c.clock;
     let o = c.orbit;
     let l = layout_of(c.kind, k.count, o.count);
-    clear(room);
+    lent::clear(room);
     put_parts(room, c, l);
     put_check(room);
 }
@@ -367,7 +356,7 @@ pub fn write(room: &mut [u8], c: Contents) -> Verdict
     if room.len() != 61 {
         return Verdict::Refused(1);
     }
-    let k = canon::canonical(c);
+    let k = canonical::canonical(c);
     let n = content_refusal(k);
     if n != 0 {
         return Verdict::Refused(n);

@@ -1,6 +1,6 @@
 use borrow.Author.Needs.{needs}
 use mathlib.Core.Path.{sym, ap, _∙_}
-use Rattle.message.specs.Read.{numberOf}
+use Rattle.verdict.specs.Verdict.{numberOf}
 use Rattle.frame.proofs.VerdictLaws.{way-shut, way-open}
 use Rattle.frame.proofs.read_with.Statement.{statement}
 use Rattle.frame.proofs.read_with.Tie as tie

@@ -8,8 +8,8 @@ use Rattle.pack.proofs.pack_all.Tie as tie
 use Rattle.pack.proofs.pack_all.Reads as reads
 use Rattle.pack.proofs.pack_all.Lts as lts
 use Rattle.pack.proofs.turn.Reads as turn-reads
-use Rattle.text.proofs.lines.begin.Reads as begin-reads
-use Rattle.text.proofs.lines.next_line.Reads as next-line-reads
+use Rattle.console.proofs.lines.begin.Reads as begin-reads
+use Rattle.console.proofs.lines.next_line.Reads as next-line-reads
 
 abbrev Inv-loop : tie.InvT-loop
 Inv-loop fd name room₀ l₀ on₀ left₀ room l on left = length room ≡ length room₀

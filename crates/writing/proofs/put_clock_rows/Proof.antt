@@ -8,7 +8,7 @@ use Rattle.bits.specs.Pick.{pick}
 use Rattle.bits.specs.Bits.{putRows}
 use Rattle.bits.proofs.RowLaws.{rows-step, rows-none}
 use Rattle.records.specs.Clock.{blankClock, clockWidths}
-use Rattle.contents.proofs.LayoutLaws.{width-near}
+use Rattle.layout.proofs.LayoutLaws.{width-near}
 use Rattle.writing.specs.Fits.{eight, clockRow}
 use Rattle.writing.proofs.RoomLaws.{clock-put}
 use Rattle.writing.proofs.put_clock_rows.Statement.{statement}

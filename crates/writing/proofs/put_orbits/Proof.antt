@@ -1,7 +1,7 @@
 use native.Mathlib.Omega.{arith}
 use borrow.Author.Needs.{needs}
 use borrow.Author.Tests.{eq-eqb, ne-eqb}
-use Rattle.contents.proofs.LayoutLaws.{from-near}
+use Rattle.layout.proofs.LayoutLaws.{from-near}
 use Rattle.writing.specs.Write.{orbitsPut}
 use Rattle.writing.proofs.put_orbits.Statement.{statement}
 use Rattle.writing.proofs.put_orbits.Tie as tie

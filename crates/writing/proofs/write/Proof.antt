@@ -2,7 +2,7 @@ use native.Mathlib.Omega.{arith}
 use borrow.Author.Needs.{needs}
 use mathlib.Core.Path.{_≡_, sym, ap, _∙_}
 use borrow.Author.Tests.{ne-eqb}
-use Rattle.canon.specs.Canon.{canon}
+use Rattle.canonical.specs.Canon.{canon}
 use Rattle.writing.specs.Write.{messageOf, contentRefusal, writeRefusal}
 use Rattle.writing.proofs.WriteLaws.{refuses-room, refuses-content, written-refused, written-taken}
 use Rattle.writing.proofs.write.Statement.{statement}

@@ -4,7 +4,7 @@ use borrow.Author.Tests.{lt-ltb, le-ltb}
 use mathlib.Core.Path.{_≡_}
 use mathlib.Core.Logic.{⊎-elim}
 use Rattle.bits.specs.Pick.{pick}
-use Rattle.contents.proofs.LayoutLaws.{width-near}
+use Rattle.layout.proofs.LayoutLaws.{width-near}
 use Rattle.contents.proofs.read.nth_clock.Statement.{statement}
 use Rattle.contents.proofs.read.nth_clock.Tie as tie
 

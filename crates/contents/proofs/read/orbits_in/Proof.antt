@@ -2,7 +2,7 @@ use native.Mathlib.Omega.{arith}
 use borrow.Author.Needs.{needs}
 use borrow.Author.Tests.{eq-eqb, ne-eqb}
 use Rattle.contents.specs.Parts.{orbitsIn}
-use Rattle.contents.proofs.LayoutLaws.{from-near}
+use Rattle.layout.proofs.LayoutLaws.{from-near}
 use Rattle.contents.proofs.read.orbits_in.Statement.{statement}
 use Rattle.contents.proofs.read.orbits_in.Tie as tie
 

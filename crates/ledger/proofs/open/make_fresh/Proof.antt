@@ -4,7 +4,7 @@ use mathlib.Core.Path.{_≡_, sym, ap, _∙_}
 use Prim.Native.Nat.{ℕ}
 use lib.ListN.{length, replicate}
 use lib.Seq.{set-out}
-use Rattle.ledger.specs.Bytes.{fresh}
+use Rattle.in_force.specs.Bytes.{fresh}
 use Rattle.ledger.proofs.open.make_fresh.Statement.{statement}
 use Rattle.ledger.proofs.open.make_fresh.Tie as tie
 

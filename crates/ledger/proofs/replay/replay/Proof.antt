@@ -4,8 +4,8 @@ use Prim.Native.Nat.{ℕ}
 use mathlib.Core.Path.{_≡_, sym, ap, _∙_}
 use mathlib.Core.List.{List}
 use lib.ListN.{length}
-use Rattle.ledger.specs.Bytes.{runBytes, framesOf}
-use Rattle.ledger.proofs.ReplayLaws.{replayed-not, replayed-all}
+use Rattle.in_force.specs.Bytes.{runBytes, framesOf}
+use Rattle.in_force.proofs.ReplayLaws.{replayed-not, replayed-all}
 use Rattle.ledger.proofs.replay.replay.Statement.{statement}
 use Rattle.ledger.proofs.replay.replay.Tie as tie
 

@@ -5,8 +5,8 @@ use Prim.Native.Nat.{ℕ, _-_, _≤_}
 use mathlib.Core.Path.{_≡_, sym, ap, _∙_, refl}
 use mathlib.Core.List.{List}
 use lib.ListN.{length}
-use Rattle.ledger.specs.Bytes.{takeBytes, runBytes, frameAt, framesTo}
-use Rattle.ledger.proofs.LogLaws.{run-start, run-step}
+use Rattle.in_force.specs.Bytes.{takeBytes, runBytes, frameAt, framesTo}
+use Rattle.in_force.proofs.LogLaws.{run-start, run-step}
 use Rattle.ledger.proofs.replay.take_log.Statement.{statement}
 use Rattle.ledger.proofs.replay.take_log.Tie as tie
 

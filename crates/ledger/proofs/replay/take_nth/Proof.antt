@@ -2,8 +2,8 @@ use borrow.Author.Needs.{needs}
 use native.Mathlib.Omega.{arith}
 use mathlib.Core.Path.{ap, _∙_}
 use mathlib.Core.Logic.{⊎-elim}
-use Rattle.ledger.specs.Bytes.{takeBytes}
-use Rattle.ledger.proofs.LogLaws.{piece-whole, piece-last}
+use Rattle.in_force.specs.Bytes.{takeBytes}
+use Rattle.in_force.proofs.LogLaws.{piece-whole, piece-last}
 use Rattle.ledger.proofs.replay.take_nth.Statement.{statement}
 use Rattle.ledger.proofs.replay.take_nth.Tie as tie
 

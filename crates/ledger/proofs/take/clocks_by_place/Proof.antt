@@ -9,14 +9,14 @@ use mathlib.Core.Logic.{⊎-elim}
 use lib.ListN.{length, take, drop, length-take}
 use lib.Seq.{getD-take}
 use Rattle.records.specs.Clock.{blankClock}
-use Rattle.form.specs.Form.{clockBytes, putClocks}
+use Rattle.held_clocks.specs.Clocks.{clockBytes, putClocks}
 use Rattle.records.specs.Slots.{nthFrom, nthSet}
-use Rattle.mask.proofs.PlaceLaws.{walk-on}
-use Rattle.mask.proofs.MaskLaws.{length-bits}
-use Rattle.mask.specs.Mask.{bitsAt, maskAt}
-use Rattle.ledger.specs.Keeps.{heldClock, byPlace}
-use Rattle.ledger.proofs.KeepLaws.{length-mapped, turn, stop, place-step, place-end, clocks-placed, placed-not-7}
-use Rattle.ledger.proofs.ViewLaws.{clock-bits}
+use Rattle.held_mask.proofs.PlaceLaws.{walk-on}
+use Rattle.held_mask.proofs.MaskLaws.{length-bits}
+use Rattle.held_mask.specs.Mask.{bitsAt, maskAt}
+use Rattle.places.specs.Keeps.{heldClock, byPlace}
+use Rattle.places.proofs.KeepLaws.{length-mapped, turn, stop, place-step, place-end, clocks-placed, placed-not-7}
+use Rattle.in_force.proofs.ViewLaws.{clock-bits}
 use Rattle.ledger.proofs.take.clocks_by_place.Statement.{statement}
 use Rattle.ledger.proofs.take.clocks_by_place.Tie as tie
 

@@ -7,9 +7,9 @@ use mathlib.Core.Path.{_≡_, sym, _∙_, refl}
 use lib.ListN.{length, drop}
 use Rattle.records.specs.Clock.{blankClock}
 use Rattle.records.specs.declared.clock.Clock.{Clock}
-use Rattle.form.specs.Form.{clockBytes, putClocks}
-use Rattle.ledger.specs.Keeps.{heldClock, bySlot, clocksOf}
-use Rattle.ledger.proofs.KeepLaws.{length-mapped, slot-step, slot-end}
+use Rattle.held_clocks.specs.Clocks.{clockBytes, putClocks}
+use Rattle.places.specs.Keeps.{heldClock, bySlot, clocksOf}
+use Rattle.places.proofs.KeepLaws.{length-mapped, slot-step, slot-end}
 use Rattle.ledger.proofs.take.clocks_by_slot.Statement.{statement}
 use Rattle.ledger.proofs.take.clocks_by_slot.Tie as tie
 

@@ -6,9 +6,9 @@ use mathlib.Core.Path.{_≡_, sym, _∙_, refl}
 use lib.ListN.{length, drop}
 use Rattle.records.specs.Orbit.{blankOrbit}
 use Rattle.records.specs.declared.orbit.Orbit.{Orbit}
-use Rattle.form.specs.Form.{orbitBytes, putOrbits}
-use Rattle.ledger.specs.Keeps.{heldOrbit, bySlot, orbitsOf}
-use Rattle.ledger.proofs.KeepLaws.{length-mapped, slot-step, slot-end}
+use Rattle.held_orbits.specs.Orbits.{orbitBytes, putOrbits}
+use Rattle.places.specs.Keeps.{heldOrbit, bySlot, orbitsOf}
+use Rattle.places.proofs.KeepLaws.{length-mapped, slot-step, slot-end}
 use Rattle.ledger.proofs.take.orbits_by_slot.Statement.{statement}
 use Rattle.ledger.proofs.take.orbits_by_slot.Tie as tie
 

@@ -1,9 +1,9 @@
 use borrow.Author.Needs.{needs}
 use mathlib.Core.Path.{sym, _∙_}
-use Rattle.form.specs.Form.{clockBytes}
-use Rattle.mask.specs.Mask.{maskAt}
-use Rattle.mask.proofs.MaskLaws.{length-bits}
-use Rattle.ledger.proofs.KeepLaws.{first-near, clocks-none, put-no}
+use Rattle.held_clocks.specs.Clocks.{clockBytes}
+use Rattle.held_mask.specs.Mask.{maskAt}
+use Rattle.held_mask.proofs.MaskLaws.{length-bits}
+use Rattle.places.proofs.KeepLaws.{first-near, clocks-none, put-no}
 use Rattle.ledger.proofs.take.take_clocks.Statement.{statement}
 use Rattle.ledger.proofs.take.take_clocks.Tie as tie
 

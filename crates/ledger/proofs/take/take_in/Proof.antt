@@ -2,7 +2,7 @@ use borrow.Author.Needs.{needs}
 use Prim.Native.Nat.{ℕ}
 use mathlib.Core.Path.{sym, ap, _∙_}
 use Rattle.frame.specs.Frame.{shellFor}
-use Rattle.ledger.proofs.RefusalLaws.{way-shut, way-open}
+use Rattle.in_force.proofs.RefusalLaws.{way-shut, way-open}
 use Rattle.ledger.proofs.take.take_in.Statement.{statement}
 use Rattle.ledger.proofs.take.take_in.Tie as tie
 

@@ -1,6 +1,6 @@
 use borrow.Author.Needs.{needs}
 use mathlib.Core.Path.{_∙_}
-use Rattle.ledger.specs.Bytes.{maskBytes}
+use Rattle.in_force.specs.Bytes.{maskBytes}
 use Rattle.ledger.proofs.take.take_mask.Statement.{statement}
 use Rattle.ledger.proofs.take.take_mask.Tie as tie
 

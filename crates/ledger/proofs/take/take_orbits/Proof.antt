@@ -1,8 +1,8 @@
 use borrow.Author.Needs.{needs}
 use mathlib.Core.Path.{sym}
-use Rattle.form.specs.Form.{orbitBytes}
-use Rattle.ledger.specs.Keeps.{orbitsOf}
-use Rattle.ledger.proofs.KeepLaws.{orbits-none, put-no}
+use Rattle.held_orbits.specs.Orbits.{orbitBytes}
+use Rattle.places.specs.Keeps.{orbitsOf}
+use Rattle.places.proofs.KeepLaws.{orbits-none, put-no}
 use Rattle.ledger.proofs.take.take_orbits.Statement.{statement}
 use Rattle.ledger.proofs.take.take_orbits.Tie as tie
 

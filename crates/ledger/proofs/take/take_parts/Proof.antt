@@ -1,9 +1,9 @@
 use borrow.Author.Needs.{needs}
 use mathlib.Core.Path.{sym, _∙_}
 use Rattle.contents.proofs.PartLaws.{mask-absent}
-use Rattle.message.proofs.JudgeLaws.{parts-refusal}
+use Rattle.judge.proofs.JudgeLaws.{parts-refusal}
 use Rattle.frame.specs.Frame.{contentsOf}
-use Rattle.ledger.proofs.RefusalLaws.{way-judged, way-refused, way-placed, way-taken}
+use Rattle.in_force.proofs.RefusalLaws.{way-judged, way-refused, way-placed, way-taken}
 use Rattle.ledger.proofs.take.take_parts.Statement.{statement}
 use Rattle.ledger.proofs.take.take_parts.Tie as tie
 

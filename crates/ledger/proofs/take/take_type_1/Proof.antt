@@ -1,11 +1,11 @@
 use borrow.Author.Needs.{needs}
 use mathlib.Core.Path.{ap, _∙_}
 use Rattle.contents.proofs.PartLaws.{clocks-absent, orbits-absent}
-use Rattle.message.specs.Judge.{maskRefusalOf}
-use Rattle.message.proofs.JudgeLaws.{mask-refusal}
+use Rattle.judge.specs.Judge.{maskRefusalOf}
+use Rattle.judge.proofs.JudgeLaws.{mask-refusal}
 use Rattle.frame.specs.Frame.{contentsOf}
-use Rattle.ledger.specs.Bytes.{maskBytes}
-use Rattle.ledger.proofs.RefusalLaws.{way-judged, way-taken-1}
+use Rattle.in_force.specs.Bytes.{maskBytes}
+use Rattle.in_force.proofs.RefusalLaws.{way-judged, way-taken-1}
 use Rattle.ledger.proofs.take.take_type_1.Statement.{statement}
 use Rattle.ledger.proofs.take.take_type_1.Tie as tie
 

@@ -3,14 +3,14 @@ use native.Mathlib.Omega.{arith}
 use Prim.Native.Nat.{_-_, _≤_}
 use mathlib.Core.Path.{_≡_, sym, _∙_, refl}
 use lib.ListN.{length, drop}
-use Rattle.bits.specs.Some.{some}
+use Rattle.bits.specs.Some.{anyOf}
 use Rattle.bits.proofs.SomeLaws.{some-hit, some-miss, some-end}
 use Rattle.list.specs.Issues.{isIll}
 use Rattle.list.proofs.issues.any_ill.Statement.{statement}
 use Rattle.list.proofs.issues.any_ill.Tie as tie
 
 abbrev Inv-loop : tie.InvT-loop
-Inv-loop is i₀ i = (i ≤ length is) × (some isIll (drop i is) ≡ some isIll is)
+Inv-loop is i₀ i = (i ≤ length is) × (anyOf isIll (drop i is) ≡ anyOf isIll is)
 
 abbrev μ-loop : tie.MeasureT-loop
 μ-loop is i₀ i = length is - i

@@ -4,8 +4,8 @@ use Prim.Native.Nat.{_+_, _-_, _≤_, _<_}
 use mathlib.Core.Path.{_≡_, sym, ap, _∙_}
 use lib.ListN.{length}
 use mathlib.Core.Logic.{inl}
-use Rattle.store.specs.Walk.{nthFrom, nthOf}
-use Rattle.store.proofs.WalkLaws.{nth-hit, nth-pass, nth-skip, nth-end, nth-rows, nth-missing}
+use Rattle.lookback.specs.Walk.{nthFrom, nthOf}
+use Rattle.lookback.proofs.WalkLaws.{nth-hit, nth-pass, nth-skip, nth-end, nth-rows, nth-missing}
 use Rattle.list.specs.Row.{answerOf}
 use Rattle.list.specs.Rows.{rowIn, listIn}
 use Rattle.list.specs.declared.row.RowAnswer.the-variants as answer

@@ -3,8 +3,8 @@ use native.Mathlib.Omega.{arith}
 use Prim.Native.Nat.{_+_, _-_, _≤_}
 use mathlib.Core.Path.{_≡_, sym, ap, _∙_}
 use lib.ListN.{length, getD}
-use Rattle.store.specs.Walk.{countFrom, toList}
-use Rattle.store.proofs.WalkLaws.{count-step, count-end, count-length}
+use Rattle.lookback.specs.Walk.{countFrom, toList}
+use Rattle.lookback.proofs.WalkLaws.{count-step, count-end, count-length}
 use mathlib.Core.Option.{Option}
 use Rattle.list.specs.Row.{rowHeld}
 use Rattle.list.specs.Rows.{rowIn, foundCount}

@@ -8,8 +8,8 @@ use Rattle.night.proofs.issues.all_lines.Tie as tie
 use Rattle.night.proofs.issues.all_lines.Reads as reads
 use Rattle.night.proofs.issues.all_lines.Lts as lts
 use Rattle.night.proofs.issues.turn.Reads as turn-reads
-use Rattle.text.proofs.lines.begin.Reads as begin-reads
-use Rattle.text.proofs.lines.next_line.Reads as next-line-reads
+use Rattle.console.proofs.lines.begin.Reads as begin-reads
+use Rattle.console.proofs.lines.next_line.Reads as next-line-reads
 
 abbrev Inv-loop : tie.InvT-loop
 Inv-loop fd name room₀ issues₀ seen₀ l₀ state₀ left₀ room issues seen l state left = length room ≡ length room₀

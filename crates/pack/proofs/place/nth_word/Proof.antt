@@ -7,7 +7,7 @@ use Rattle.pack.proofs.place.nth_word.Statement.{statement}
 use Rattle.pack.proofs.place.nth_word.Tie as tie
 use Rattle.pack.proofs.place.nth_word.Reads as reads
 use Rattle.pack.proofs.place.nth_word.Lts as lts
-use Rattle.text.proofs.words.next_word.Reads as next-word-reads
+use Rattle.console.proofs.words.next_word.Reads as next-word-reads
 
 abbrev Inv-loop : tie.InvT-loop
 Inv-loop s k w₀ i₀ w i = i ≤ k

@@ -9,7 +9,7 @@ use Rattle.show.proofs.lines.put_clocks.Tie as tie
 use Rattle.show.proofs.lines.put_clocks.Reads as reads
 use Rattle.show.proofs.lines.put_clocks.Lts as lts
 use Rattle.show.proofs.lines.put_clock.Reads as put-clock-reads
-use Rattle.text.proofs.put.put_bytes.Reads as put-bytes-reads
+use Rattle.console.proofs.put.put_bytes.Reads as put-bytes-reads
 
 abbrev Inv-loop : tie.InvT-loop
 Inv-loop room₀ at slotted count ks most n₀ i₀ room n i = (length room ≡ length room₀) × (n ≤ length room) × (i ≤ 23)

@@ -9,7 +9,7 @@ use Rattle.show.proofs.lines.put_orbits.Tie as tie
 use Rattle.show.proofs.lines.put_orbits.Reads as reads
 use Rattle.show.proofs.lines.put_orbits.Lts as lts
 use Rattle.show.proofs.lines.put_orbit.Reads as put-orbit-reads
-use Rattle.text.proofs.put.put_bytes.Reads as put-bytes-reads
+use Rattle.console.proofs.put.put_bytes.Reads as put-bytes-reads
 
 abbrev Inv-loop : tie.InvT-loop
 Inv-loop room₀ at count os most n₀ i₀ room n i = (length room ≡ length room₀) × (n ≤ length room) × (i ≤ 6)

@@ -9,8 +9,8 @@ use Rattle.show.proofs.lines.put_raw.Statement.{statement}
 use Rattle.show.proofs.lines.put_raw.Tie as tie
 use Rattle.show.proofs.lines.put_raw.Reads as reads
 use Rattle.show.proofs.lines.put_raw.Lts as lts
-use Rattle.text.proofs.put.put_byte.Reads as put-byte-reads
-use Rattle.text.proofs.put.put_signed.Reads as put-signed-reads
+use Rattle.console.proofs.put.put_byte.Reads as put-byte-reads
+use Rattle.console.proofs.put.put_signed.Reads as put-signed-reads
 
 cast-value : tie.Need-cast-value
 cast-value c = rw (toZ-ofZ (c .before .fits .x)) (wider (c .before .args .x) (c .before .fits .x))

@@ -9,7 +9,7 @@ use Rattle.show.proofs.lines.put_slots.Tie as tie
 use Rattle.show.proofs.lines.put_slots.Reads as reads
 use Rattle.show.proofs.lines.put_slots.Lts as lts
 use Rattle.show.proofs.lines.put_slot.Reads as put-slot-reads
-use Rattle.text.proofs.put.place_in.Reads as place-in-reads
+use Rattle.console.proofs.put.place_in.Reads as place-in-reads
 
 abbrev Inv-loop : tie.InvT-loop
 Inv-loop room₀ at bits n₀ i₀ room n i = (length room ≡ length room₀) × (n ≤ length room) × (i ≤ 255)

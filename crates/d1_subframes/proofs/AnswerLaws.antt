@@ -1,0 +1,83 @@
+-- The answers of reading and writing, case by case; bytes stored over a whole room.
+use mathlib.Core.Path.{_≡_, refl, ap, _∙_, subst}
+use mathlib.Core.Bool.{Bool, true, false, not, _||_}
+use mathlib.Core.Logic.{_≢_}
+use Prim.Native.Nat.{ℕ, _<_, _≤_}
+use mathlib.Core.List.{List}
+use native.Mathlib.Nat.{zero-add}
+use native.Mathlib.Omega.{arith}
+use lib.Dec.{T, eqb, ltb}
+use lib.ListN.{length}
+use lib.Seq.{ext-getD}
+use borrow.Author.Tests.{eqb-true, not-false, eq-eqb, ne-eqb, lt-ltb, le-ltb}
+use Rattle.bits.specs.Bits.{fieldAt}
+use Rattle.bits.specs.Bytes.{storeAt}
+use Rattle.bits.proofs.ByteLaws.{length-store, store-in}
+use Rattle.d1_subframes.specs.Subframe.{dataOf, preambleOf, frameOf, secondOf, refusalOf, readUnfit, writeUnfit, readRefusal, writeRefusal}
+
+-- bytes stored over a whole room are the room
+pub whole : (room r : List ℕ) → length room ≡ length r → storeAt room 0 r ≡ r
+whole room r e =
+    ext-getD 0 (storeAt room 0 r) r (length-store room 0 r ∙ e)
+    (λ j h. rw (zero-add j) at (store-in room 0 r j (omega arith) (omega (arith, length-store room 0 r))))
+
+-- 02, CR 4: 32 to 34, lowest first, where 31 does not apply
+pub refuses-32 : (d : List ℕ) → preambleOf d ≢ 0b11100010010 → refusalOf false d ≡ 32
+unfolding refusalOf
+refuses-32 d p = rw (ne-eqb _ _ p)
+
+pub refuses-33 : (d : List ℕ) → preambleOf d ≡ 0b11100010010 → ltb (frameOf d) 1 || ltb 5 (frameOf d) ≡ true → refusalOf false d ≡ 33
+unfolding refusalOf
+refuses-33 d p f = rw (eq-eqb _ _ p, f)
+
+pub refuses-34 : (d : List ℕ) → preambleOf d ≡ 0b11100010010 → ltb (frameOf d) 1 || ltb 5 (frameOf d) ≡ false → 604799 < secondOf d
+    → refusalOf false d ≡ 34
+unfolding refusalOf
+refuses-34 d p f l = rw (eq-eqb _ _ p, f, lt-ltb _ _ l)
+
+pub refuses-none : (d : List ℕ) → preambleOf d ≡ 0b11100010010 → ltb (frameOf d) 1 || ltb 5 (frameOf d) ≡ false → secondOf d ≤ 604799
+    → refusalOf false d ≡ 0
+unfolding refusalOf
+refuses-none d p f l = rw (eq-eqb _ _ p, f, le-ltb _ _ l)
+
+-- 02, CR 4: 31 before all else
+pub unfit-31 : (d : List ℕ) → refusalOf true d ≡ 31
+unfolding refusalOf
+unfit-31 d = refl
+
+pub read-unfit : (room s : List ℕ) → readUnfit room s ≡ true → readRefusal room s ≡ 31
+unfolding readRefusal
+read-unfit room s e = ap (λ (t : Bool). refusalOf t (dataOf s)) e ∙ unfit-31 (dataOf s)
+
+pub write-unfit : (room d : List ℕ) → writeUnfit room d ≡ true → writeRefusal room d ≡ 31
+unfolding writeRefusal
+write-unfit room d e = ap (λ (t : Bool). refusalOf t d) e ∙ unfit-31 d
+
+-- else by the information bits
+pub read-judged : (room s : List ℕ) → readUnfit room s ≡ false → readRefusal room s ≡ refusalOf false (dataOf s)
+unfolding readRefusal
+read-judged room s e = ap (λ (t : Bool). refusalOf t (dataOf s)) e
+
+pub write-judged : (room d : List ℕ) → writeUnfit room d ≡ false → writeRefusal room d ≡ refusalOf false d
+unfolding writeRefusal
+write-judged room d e = ap (λ (t : Bool). refusalOf t d) e
+
+-- neither of two tests
+neither : (a b : Bool) → a || b ≡ false → (a ≡ false) × (b ≡ false)
+neither true b e = absurd (subst T e tt)
+neither false b e = (refl, e)
+
+same : (a b : ℕ) → not (eqb a b) ≡ false → a ≡ b
+same a b e = eqb-true a b (not-false (eqb a b) e)
+
+-- what fits has both lengths, and four closing bits of zero
+pub read-fits : (room s : List ℕ) → readUnfit room s ≡ false → (length s ≡ 38) × (length room ≡ 28) × (fieldAt s 300 4 ≡ 0)
+read-fits room s e =
+    let p = neither (not (eqb (length s) 38) || not (eqb (length room) 28)) (not (eqb (fieldAt s 300 4) 0)) e in
+    let q = neither (not (eqb (length s) 38)) (not (eqb (length room) 28)) (p .0) in
+    (same (length s) 38 (q .0), same (length room) 28 (q .1), same (fieldAt s 300 4) 0 (p .1))
+
+pub write-fits : (room d : List ℕ) → writeUnfit room d ≡ false → (length d ≡ 28) × (length room ≡ 38)
+write-fits room d e =
+    let q = neither (not (eqb (length d) 28)) (not (eqb (length room) 38)) e in
+    (same (length d) 28 (q .0), same (length room) 38 (q .1))

@@ -1,0 +1,97 @@
+-- Laws of the forms: their lengths, and the parts one after the other.
+use mathlib.Core.Path.{_≡_, refl, sym, _∙_}
+use mathlib.Core.Bool.{Bool}
+use Prim.Native.Nat.{ℕ, _*_, _/_, _%_}
+use mathlib.Core.List.{List, [], _∷_, _++_}
+use lib.ListN.{length, replicate, length-append}
+use native.Mathlib.Omega.{arith}
+use Rattle.bits.specs.Bytes.{storeAt}
+use Rattle.bits.specs.Table.{table}
+use Rattle.bits.proofs.TableLaws.{length-table}
+use Rattle.records.specs.declared.orbit.Orbit.{Orbit}
+use Rattle.records.specs.declared.clock.Clock.{Clock}
+use Rattle.contents.specs.declared.parts.MaskPart.{MaskPart}
+use Rattle.contents.specs.declared.parts.ClockPart.{ClockPart}
+use Rattle.contents.specs.declared.parts.OrbitPart.{OrbitPart}
+use Rattle.contents.specs.declared.parts.Contents.{Contents}
+use Rattle.contents.specs.Parts.{noContents, noMask, noClocks, noOrbits}
+use Rattle.list.specs.declared.row.Row.{Row}
+use Rattle.flat_forms.specs.Write.{flagsOf, clockRow, orbitRow, rowsTo, maskHead, clockHead, orbitHead, maskBytes, clocksBytes, orbitsBytes, contentsBytes, rowList, rowBytes}
+use Rattle.flat_forms.proofs.StoreLaws.{store-two, store-whole, length-rows}
+
+-- ---- lengths
+pub length-flags : (bits : List Bool) → length (flagsOf bits) ≡ 255
+unfolding flagsOf
+length-flags bits = length-table _ 255
+
+pub length-clocks : (ks : List Clock) (n : ℕ) → length (rowsTo (clockRow ks) n) ≡ 5 * n
+length-clocks ks n = length-rows (clockRow ks) 5 (λ i. refl) n
+
+pub length-orbits : (os : List Orbit) (n : ℕ) → length (rowsTo (orbitRow os) n) ≡ 16 * n
+length-orbits os n = length-rows (orbitRow os) 16 (λ i. refl) n
+
+pub mask-long : (kind : ℕ) (m : MaskPart) → length (maskBytes kind m) ≡ 262
+unfolding maskBytes
+mask-long kind m = length-append (maskHead kind (m .epoch) (m .ssr) (m .iodp)) (flagsOf (m .bits)) ∙ omega (arith, length-flags (m .bits))
+
+pub clocks-long : (p : ClockPart) → length (clocksBytes p) ≡ 124
+unfolding clocksBytes
+clocks-long p = length-append (clockHead (p .epoch) (p .ssr) (p .iodp) (p .start) (p .count)) (rowsTo (clockRow (p .clocks)) 23) ∙ omega (arith, length-clocks (p .clocks) 23)
+
+pub orbits-long : (p : OrbitPart) → length (orbitsBytes p) ≡ 102
+unfolding orbitsBytes
+orbits-long p = length-append (orbitHead (p .epoch) (p .ssr) (p .count)) (rowsTo (orbitRow (p .orbits)) 6) ∙ omega (arith, length-orbits (p .orbits) 6)
+
+-- contents are 488 bytes
+pub contents-long : (c : Contents) → length (contentsBytes c) ≡ 488
+unfolding contentsBytes
+contents-long c =
+    length-append (maskBytes (c .kind) (c .mask)) (clocksBytes (c .clock) ++ orbitsBytes (c .orbit))
+    ∙ omega (arith, mask-long (c .kind) (c .mask), length-append (clocksBytes (c .clock)) (orbitsBytes (c .orbit)), clocks-long (c .clock), orbits-long (c .orbit))
+
+-- a row is 27 bytes
+pub row-long : (r : Row) → length (rowBytes r) ≡ 27
+row-long r = refl
+
+-- equal numbers, equal rows
+pub row-same : (slot number iodn corr s s′ ra ra′ al al′ cr cr′ ck ck′ k k′ q q′ : ℕ) →
+    s ≡ s′ → ra ≡ ra′ → al ≡ al′ → cr ≡ cr′ → ck ≡ ck′ → k ≡ k′ → q ≡ q′ →
+    rowList slot s number iodn corr ra al cr ck k q ≡ rowList slot s′ number iodn corr ra′ al′ cr′ ck′ k′ q′
+row-same slot number iodn corr s s′ ra ra′ al al′ cr cr′ ck ck′ k k′ q q′ a b d e f g h = rw (a, b, d, e, f, g, h)
+
+-- equal numbers, equal orbits
+pub orbit-same : (s i o : ℕ) {r r′ a a′ c c′ k k′ q q′ : ℕ} → r ≡ r′ → a ≡ a′ → c ≡ c′ → k ≡ k′ → q ≡ q′ →
+    _≡_ {A = List ℕ} (s / 256 ∷ s % 256 ∷ i / 256 ∷ i % 256 ∷ o ∷ r / 256 ∷ r % 256 ∷ a / 256 ∷ a % 256 ∷ c / 256 ∷ c % 256 ∷ k ∷ q / 65536 / 256 ∷ q / 65536 % 256 ∷ q % 65536 / 256 ∷ q % 65536 % 256 ∷ []) (s / 256 ∷ s % 256 ∷ i / 256 ∷ i % 256 ∷ o ∷ r′ / 256 ∷ r′ % 256 ∷ a′ / 256 ∷ a′ % 256 ∷ c′ / 256 ∷ c′ % 256 ∷ k′ ∷ q′ / 65536 / 256 ∷ q′ / 65536 % 256 ∷ q′ % 65536 / 256 ∷ q′ % 65536 % 256 ∷ [])
+orbit-same s i o r a c k q = rw (r, a, c, k, q)
+
+-- ---- the parts one after the other
+pub mask-two : (s : List ℕ) (kind : ℕ) (m : MaskPart) → storeAt (storeAt s 0 (maskHead kind (m .epoch) (m .ssr) (m .iodp))) 7 (flagsOf (m .bits)) ≡ storeAt s 0 (maskBytes kind m)
+unfolding maskBytes
+mask-two s kind m = store-two s 0 7 (maskHead kind (m .epoch) (m .ssr) (m .iodp)) (flagsOf (m .bits)) refl
+
+pub clocks-two : (s : List ℕ) (p : ClockPart) → storeAt (storeAt s 262 (clockHead (p .epoch) (p .ssr) (p .iodp) (p .start) (p .count))) 271 (rowsTo (clockRow (p .clocks)) 23) ≡ storeAt s 262 (clocksBytes p)
+unfolding clocksBytes
+clocks-two s p = store-two s 262 271 (clockHead (p .epoch) (p .ssr) (p .iodp) (p .start) (p .count)) (rowsTo (clockRow (p .clocks)) 23) refl
+
+pub orbits-two : (s : List ℕ) (p : OrbitPart) → storeAt (storeAt s 386 (orbitHead (p .epoch) (p .ssr) (p .count))) 392 (rowsTo (orbitRow (p .orbits)) 6) ≡ storeAt s 386 (orbitsBytes p)
+unfolding orbitsBytes
+orbits-two s p = store-two s 386 392 (orbitHead (p .epoch) (p .ssr) (p .count)) (rowsTo (orbitRow (p .orbits)) 6) refl
+
+pub contents-three : (s : List ℕ) (c : Contents) → storeAt (storeAt (storeAt s 0 (maskBytes (c .kind) (c .mask))) 262 (clocksBytes (c .clock))) 386 (orbitsBytes (c .orbit)) ≡ storeAt s 0 (contentsBytes c)
+unfolding contentsBytes
+contents-three s c =
+    let m = maskBytes (c .kind) (c .mask) in
+    store-two (storeAt s 0 m) 262 386 (clocksBytes (c .clock)) (orbitsBytes (c .orbit)) (omega (arith, clocks-long (c .clock)))
+    ∙ store-two s 0 262 m (clocksBytes (c .clock) ++ orbitsBytes (c .orbit)) (omega (arith, mask-long (c .kind) (c .mask)))
+
+-- ---- a room of their length becomes the bytes
+pub contents-whole : (s : List ℕ) (c : Contents) → length s ≡ 488 → storeAt s 0 (contentsBytes c) ≡ contentsBytes c
+contents-whole s c e = store-whole s (contentsBytes c) (e ∙ sym (contents-long c))
+
+pub row-whole : (s : List ℕ) (r : Row) → length s ≡ 27 → storeAt s 0 (rowBytes r) ≡ rowBytes r
+row-whole s r e = store-whole s (rowBytes r) e
+
+-- ---- 01, Refusal numbers: a refusal answers only its number: contents that are all zero are 488 zeros
+pub none-zero : contentsBytes noContents ≡ replicate 488 0
+unfolding contentsBytes maskBytes clocksBytes orbitsBytes flagsOf rowsTo table noContents noMask noClocks noOrbits
+none-zero = refl

@@ -1,3 +1,0 @@
-pub mod ReadLaws
-pub mod FormLaws
-mod ByteLaws

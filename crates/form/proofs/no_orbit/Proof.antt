@@ -1,9 +1,0 @@
-use borrow.Author.Needs.{needs}
-use Rattle.form.proofs.no_orbit.Statement.{statement}
-use Rattle.form.proofs.no_orbit.Tie as tie
-
-returns : tie.Need-returns
-returns c = search needs
-
-pub no-orbit-spec : {M : Type 1} → statement M
-no-orbit-spec = tie.close (tie.spec returns)

@@ -1,0 +1,244 @@
+-- The bytes of contents say the contents, whatever numbers they hold, as long as numbers with a sign fit two bytes.
+use mathlib.Core.Path.{_≡_, refl, _∙_}
+use mathlib.Core.Logic.{⊎-elim}
+use mathlib.Core.Bool.{Bool, true, false}
+use Prim.Native.Nat.{ℕ, zero, suc, _+_, _*_, _<_, _≤_}
+use mathlib.Core.List.{List, _++_}
+use lib.Dec.{eqb}
+use lib.ListN.{getD, length, List·getD-append}
+use lib.Seq.{getD-append-add}
+use lib.Signed.{mag}
+use native.Mathlib.Nat.{not-suc-le-zero, eq-or-lt-of-le, le-of-suc-le-suc, mul-le-mul-left, mul-suc}
+use native.Mathlib.Omega.{arith}
+use Rattle.records.proofs.UraLaws.{kind-back}
+use Rattle.bits.proofs.TableLaws.{getD-table, table-ext, table-same}
+use Rattle.lent.specs.Digits.{flagOf}
+use Rattle.lent.proofs.DigitLaws.{pair-back, quad-back}
+use Rattle.records.specs.Orbit.{blankOrbit}
+use Rattle.records.specs.Clock.{blankClock}
+use Rattle.records.proofs.SignedLaws.{signed-raw}
+use Rattle.records.specs.declared.ura.Ura.{Ura}
+use Rattle.records.specs.declared.ura.Ura.the-variants.{Unknown, Quarters, Above}
+use Rattle.records.specs.declared.orbit.Orbit.{Orbit}
+use Rattle.records.specs.declared.clock.Clock.{Clock}
+use Rattle.contents.specs.declared.parts.Contents.{Contents}
+use Rattle.records.specs.Ura.{kindOf, quartersIn, heldUra}
+use Rattle.from_flat.specs.Read.{flagAt, flagsAt, clockNth, clocksAt, orbitNth, orbitsAt, maskIn, clocksIn, orbitsIn, contentsOf}
+use Rattle.flat_forms.specs.Write.{word, flagsOf, clockRow, orbitRow, rowsTo, maskHead, clockHead, orbitHead, maskBytes, clocksBytes, orbitsBytes, contentsBytes}
+use Rattle.flat_forms.proofs.StoreLaws.{length-rows}
+use Rattle.flat_forms.proofs.FlatLaws.{mask-long, clocks-long}
+
+-- the byte after m others
+right : (xs ys : List ℕ) (m n at : ℕ) → length xs ≡ m → at ≡ m + n → getD (xs ++ ys) at 0 ≡ getD ys n 0
+right xs ys m n at e p = rw (p, ← e) (getD-append-add xs ys n 0)
+
+-- byte k of row i
+module _ (f : ℕ → List ℕ) (w : ℕ) (long : (i : ℕ) → length (f i) ≡ w) where
+  row-at : (n i k : ℕ) → i < n → k < w → getD (rowsTo f n) (w * i + k) 0 ≡ getD (f i) k 0
+  unfolding rowsTo
+  row-at zero i k h l = absurd (not-suc-le-zero h)
+  row-at (suc n) i k h l =
+      ⊎-elim
+      (λ (e : i ≡ n). rw e (right (rowsTo f n) (f n) (w * n) k (w * n + k) (length-rows f w long n) refl))
+      (λ (b : i < n).
+      let m : w * suc i ≤ w * n = mul-le-mul-left w b in
+      List·getD-append (rowsTo f n) (f n) 0 (w * i + k) (omega (arith, length-rows f w long n, mul-suc w i)) ∙ row-at n i k b l)
+      (eq-or-lt-of-le (le-of-suc-le-suc h))
+
+flag-back : (b : Bool) → eqb (flagOf b) 1 ≡ b
+flag-back true = refl
+flag-back false = refl
+
+-- a number with its sign fits two bytes
+abbrev pub Fits16 : Clock → Type 0
+Fits16 k = mag (k .c0) < 32768
+
+-- so do the three of an orbit record
+pub record OrbitFits (o : Orbit) : Type 0 where
+  pub radial : mag (o .radial) < 32768
+  pub along : mag (o .along) < 32768
+  pub cross : mag (o .cross) < 32768
+
+-- contents as the code has them: their arrays have their lengths, their numbers fit
+pub record Sound (c : Contents) : Type 0 where
+  pub bits : length (c .mask .bits) ≡ 255
+  pub clocks : length (c .clock .clocks) ≡ 23
+  pub orbits : length (c .orbit .orbits) ≡ 6
+  pub clock : (i : ℕ) → i < 23 → Fits16 (getD (c .clock .clocks) i blankClock)
+  pub orbit : (i : ℕ) → i < 6 → OrbitFits (getD (c .orbit .orbits) i blankOrbit)
+
+module _ (c : Contents) where
+  -- where the bytes of each part stand
+  head-byte : (k : ℕ) → k < 7 → getD (contentsBytes c) k 0 ≡ getD (maskHead (c .kind) (c .mask .epoch) (c .mask .ssr) (c .mask .iodp)) k 0
+  unfolding contentsBytes maskBytes
+  head-byte k h =
+      let m = maskHead (c .kind) (c .mask .epoch) (c .mask .ssr) (c .mask .iodp) in
+      List·getD-append (maskBytes (c .kind) (c .mask)) _ 0 k (omega (arith, mask-long (c .kind) (c .mask)))
+      ∙ List·getD-append m (flagsOf (c .mask .bits)) 0 k h
+
+  flag-byte : (i : ℕ) → i < 255 → getD (contentsBytes c) (7 + i) 0 ≡ flagOf (getD (c .mask .bits) i false)
+  unfolding contentsBytes maskBytes flagsOf
+  flag-byte i h =
+      List·getD-append (maskBytes (c .kind) (c .mask)) _ 0 (7 + i) (omega (arith, mask-long (c .kind) (c .mask)))
+      ∙ right (maskHead (c .kind) (c .mask .epoch) (c .mask .ssr) (c .mask .iodp)) (flagsOf (c .mask .bits)) 7 i (7 + i) refl refl
+      ∙ getD-table (λ (k : ℕ). flagOf (getD (c .mask .bits) k false)) 255 i 0 h
+
+  clock-byte : (k at : ℕ) → k < 124 → at ≡ 262 + k → getD (contentsBytes c) at 0 ≡ getD (clocksBytes (c .clock)) k 0
+  unfolding contentsBytes
+  clock-byte k at h e =
+      right (maskBytes (c .kind) (c .mask)) _ 262 k at (mask-long (c .kind) (c .mask)) e
+      ∙ List·getD-append (clocksBytes (c .clock)) (orbitsBytes (c .orbit)) 0 k (omega (arith, clocks-long (c .clock)))
+
+  orbit-byte : (k at : ℕ) → at ≡ 386 + k → getD (contentsBytes c) at 0 ≡ getD (orbitsBytes (c .orbit)) k 0
+  unfolding contentsBytes
+  orbit-byte k at e =
+      right (maskBytes (c .kind) (c .mask)) _ 262 (124 + k) at (mask-long (c .kind) (c .mask)) (omega arith)
+      ∙ right (clocksBytes (c .clock)) (orbitsBytes (c .orbit)) 124 k (124 + k) (clocks-long (c .clock)) refl
+
+  clock-head : (k at : ℕ) → k < 9 → at ≡ 262 + k →
+      getD (contentsBytes c) at 0 ≡ getD (clockHead (c .clock .epoch) (c .clock .ssr) (c .clock .iodp) (c .clock .start) (c .clock .count)) k 0
+  unfolding clocksBytes
+  clock-head k at h e =
+      clock-byte k at (omega arith) e
+      ∙ List·getD-append (clockHead (c .clock .epoch) (c .clock .ssr) (c .clock .iodp) (c .clock .start) (c .clock .count)) (rowsTo (clockRow (c .clock .clocks)) 23) 0 k h
+
+  orbit-head : (k at : ℕ) → k < 6 → at ≡ 386 + k → getD (contentsBytes c) at 0 ≡ getD (orbitHead (c .orbit .epoch) (c .orbit .ssr) (c .orbit .count)) k 0
+  unfolding orbitsBytes
+  orbit-head k at h e =
+      orbit-byte k at e
+      ∙ List·getD-append (orbitHead (c .orbit .epoch) (c .orbit .ssr) (c .orbit .count)) (rowsTo (orbitRow (c .orbit .orbits)) 6) 0 k h
+
+  clock-row : (i k at : ℕ) → i < 23 → k < 5 → at ≡ 271 + 5 * i + k → getD (contentsBytes c) at 0 ≡ getD (clockRow (c .clock .clocks) i) k 0
+  unfolding clocksBytes
+  clock-row i k at h l e =
+      clock-byte (9 + (5 * i + k)) at (omega arith) (omega arith)
+      ∙ right (clockHead (c .clock .epoch) (c .clock .ssr) (c .clock .iodp) (c .clock .start) (c .clock .count)) (rowsTo (clockRow (c .clock .clocks)) 23) 9 (5 * i + k) _ refl refl
+      ∙ row-at (clockRow (c .clock .clocks)) 5 (λ j. refl) 23 i k h l
+
+  orbit-row : (i k at : ℕ) → i < 6 → k < 16 → at ≡ 392 + 16 * i + k → getD (contentsBytes c) at 0 ≡ getD (orbitRow (c .orbit .orbits) i) k 0
+  unfolding orbitsBytes
+  orbit-row i k at h l e =
+      orbit-byte (6 + (16 * i + k)) at (omega arith)
+      ∙ right (orbitHead (c .orbit .epoch) (c .orbit .ssr) (c .orbit .count)) (rowsTo (orbitRow (c .orbit .orbits)) 6) 6 (16 * i + k) _ refl refl
+      ∙ row-at (orbitRow (c .orbit .orbits)) 16 (λ j. refl) 6 i k h l
+
+  -- each record is read as it was written
+  clock-nth : (i : ℕ) → i < 23 → Fits16 (getD (c .clock .clocks) i blankClock) → clockNth (contentsBytes c) i ≡ getD (c .clock .clocks) i blankClock
+  clock-nth i h fits =
+      let k = getD (c .clock .clocks) i blankClock in
+      let at = 271 + 5 * i in
+      rw (
+        clock-row i 0 at h (omega arith) (omega arith),
+        clock-row i 1 (at + 1) h (omega arith) (omega arith),
+        clock-row i 2 (at + 2) h (omega arith) (omega arith),
+        clock-row i 3 (at + 3) h (omega arith) (omega arith),
+        clock-row i 4 (at + 3 + 1) h (omega arith) (omega arith),
+        pair-back (k .slot),
+        pair-back (word (k .c0)),
+        signed-raw 32768 (k .c0) fits,
+      )
+
+  orbit-nth : (i : ℕ) → i < 6 → OrbitFits (getD (c .orbit .orbits) i blankOrbit) → orbitNth (contentsBytes c) i ≡ getD (c .orbit .orbits) i blankOrbit
+  orbit-nth i h fits =
+      let o = getD (c .orbit .orbits) i blankOrbit in
+      let at = 392 + 16 * i in
+      rw (
+        orbit-row i 0 at h (omega arith) (omega arith),
+        orbit-row i 1 (at + 1) h (omega arith) (omega arith),
+        orbit-row i 2 (at + 2) h (omega arith) (omega arith),
+        orbit-row i 3 (at + 2 + 1) h (omega arith) (omega arith),
+        orbit-row i 4 (at + 4) h (omega arith) (omega arith),
+        orbit-row i 5 (at + 5) h (omega arith) (omega arith),
+        orbit-row i 6 (at + 5 + 1) h (omega arith) (omega arith),
+        orbit-row i 7 (at + 7) h (omega arith) (omega arith),
+        orbit-row i 8 (at + 7 + 1) h (omega arith) (omega arith),
+        orbit-row i 9 (at + 9) h (omega arith) (omega arith),
+        orbit-row i 10 (at + 9 + 1) h (omega arith) (omega arith),
+        orbit-row i 11 (at + 11) h (omega arith) (omega arith),
+        orbit-row i 12 (at + 12) h (omega arith) (omega arith),
+        orbit-row i 13 (at + 12 + 1) h (omega arith) (omega arith),
+        orbit-row i 14 (at + 12 + 2) h (omega arith) (omega arith),
+        orbit-row i 15 (at + 12 + 2 + 1) h (omega arith) (omega arith),
+      )
+      (rw (
+        pair-back (o .slot),
+        pair-back (o .iodn),
+        pair-back (word (o .radial)),
+        signed-raw 32768 (o .radial) (fits .radial),
+        pair-back (word (o .along)),
+        signed-raw 32768 (o .along) (fits .along),
+        pair-back (word (o .cross)),
+        signed-raw 32768 (o .cross) (fits .cross),
+        quad-back (quartersIn (o .ura)),
+        kind-back (o .ura),
+      ))
+
+  flags-same : length (c .mask .bits) ≡ 255 → flagsAt (contentsBytes c) ≡ c .mask .bits
+  unfolding flagsAt
+  flags-same e =
+      table-ext (flagAt (contentsBytes c)) (λ (i : ℕ). getD (c .mask .bits) i false) 255 (λ i h. rw (flag-byte i h) (flag-back (getD (c .mask .bits) i false)))
+      ∙ table-same (c .mask .bits) 255 false e
+
+  mask-same : length (c .mask .bits) ≡ 255 → maskIn (contentsBytes c) ≡ c .mask
+  unfolding maskIn
+  mask-same e =
+      rw (
+        head-byte 1 (omega arith),
+        head-byte 2 (omega arith),
+        head-byte 3 (omega arith),
+        head-byte 4 (omega arith),
+        head-byte 5 (omega arith),
+        head-byte 6 (omega arith),
+        flags-same e,
+        quad-back (c .mask .epoch),
+      )
+
+  module _ (s : Sound c) where
+    clocks-same : clocksAt (contentsBytes c) ≡ c .clock .clocks
+    unfolding clocksAt
+    clocks-same =
+        table-ext (clockNth (contentsBytes c)) (λ (i : ℕ). getD (c .clock .clocks) i blankClock) 23 (λ i h. clock-nth i h (s .clock i h))
+        ∙ table-same (c .clock .clocks) 23 blankClock (s .clocks)
+
+    orbits-same : orbitsAt (contentsBytes c) ≡ c .orbit .orbits
+    unfolding orbitsAt
+    orbits-same =
+        table-ext (orbitNth (contentsBytes c)) (λ (i : ℕ). getD (c .orbit .orbits) i blankOrbit) 6 (λ i h. orbit-nth i h (s .orbit i h))
+        ∙ table-same (c .orbit .orbits) 6 blankOrbit (s .orbits)
+
+    clock-part : clocksIn (contentsBytes c) ≡ c .clock
+    unfolding clocksIn
+    clock-part =
+        rw (
+          clock-head 0 262 (omega arith) refl,
+          clock-head 1 263 (omega arith) refl,
+          clock-head 2 264 (omega arith) refl,
+          clock-head 3 265 (omega arith) refl,
+          clock-head 4 266 (omega arith) refl,
+          clock-head 5 267 (omega arith) refl,
+          clock-head 6 268 (omega arith) refl,
+          clock-head 7 269 (omega arith) refl,
+          clock-head 8 270 (omega arith) refl,
+          clocks-same,
+          quad-back (c .clock .epoch),
+          pair-back (c .clock .start),
+        )
+
+    orbit-part : orbitsIn (contentsBytes c) ≡ c .orbit
+    unfolding orbitsIn
+    orbit-part =
+        rw (
+          orbit-head 0 386 (omega arith) refl,
+          orbit-head 1 387 (omega arith) refl,
+          orbit-head 2 388 (omega arith) refl,
+          orbit-head 3 389 (omega arith) refl,
+          orbit-head 4 390 (omega arith) refl,
+          orbit-head 5 391 (omega arith) refl,
+          orbits-same,
+          quad-back (c .orbit .epoch),
+        )
+
+    -- THE LAW: the bytes of contents say the contents
+    pub contents-back : contentsOf (contentsBytes c) ≡ c
+    unfolding contentsOf
+    contents-back = rw (head-byte 0 (omega arith), mask-same (s .bits), clock-part, orbit-part)

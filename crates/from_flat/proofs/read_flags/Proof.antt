@@ -1,0 +1,66 @@
+-- The flags before entry i are read.
+use borrow.Author.Needs.{needs}
+use native.Mathlib.Omega.{arith}
+use Prim.Native.Nat.{ℕ, _-_, _≤_}
+use mathlib.Core.Path.{_≡_, ap, refl}
+use lib.ListN.{length}
+use mathlib.Core.List.{_++_}
+use lib.ListN.{drop}
+use Rattle.bits.specs.Table.{table}
+use Rattle.bits.proofs.TableLaws.{fill-start, fill-step, fill-done}
+use mathlib.Core.Bool.{false}
+use lib.Dec.{eqb}
+use Rattle.from_flat.specs.Read.{flagAt, flagsAt}
+use Rattle.from_flat.proofs.read_flags.Statement.{statement}
+use Rattle.from_flat.proofs.read_flags.Tie as tie
+
+abbrev Inv-loop : tie.InvT-loop
+Inv-loop t out₀ i₀ out i = (i ≤ 255) × (length out₀ ≡ 255) × (out ≡ table (flagAt t) i ++ drop i out₀)
+
+abbrev μ-loop : tie.MeasureT-loop
+μ-loop t out₀ i₀ out i = 255 - i
+
+loop-holds : tie.Need-loop-holds Inv-loop μ-loop
+loop-holds c = (omega arith, refl, fill-start _ _)
+
+add-byte : tie.Need-add-byte Inv-loop μ-loop
+add-byte c = search needs
+
+byte-requires : tie.Need-byte-requires Inv-loop μ-loop
+byte-requires c κs = search needs
+
+array-write-out : tie.Need-array-write-out Inv-loop μ-loop
+array-write-out c = search needs
+
+add-i : tie.Need-add-i Inv-loop μ-loop
+add-i c = search needs
+
+loop-less : tie.Need-loop-less Inv-loop μ-loop
+loop-less c = search needs
+
+loop-again : tie.Need-loop-again Inv-loop μ-loop
+loop-again c =
+    let l = c .before .before .loop in
+    let t = c .before .before .before .before .args .t .now in
+    (omega arith, refl, fill-step (flagAt t) (l .i) _ _ _ false (omega arith) (l .inv .2) (ap (λ (b : ℕ). eqb b 1) (c .byte .ensures)))
+
+returns : tie.Need-returns Inv-loop μ-loop
+unfolding flagsAt
+returns c =
+    let l = c .before .loop in
+    fill-done _ (l .i) 255 _ _ (omega arith) refl (l .inv .2)
+
+pub read-flags-spec : {M : Type 1} → statement M
+read-flags-spec =
+    tie.close
+    (tie.spec
+    Inv-loop
+    μ-loop
+    loop-holds
+    add-byte
+    byte-requires
+    array-write-out
+    add-i
+    loop-less
+    loop-again
+    returns)

@@ -1,0 +1,89 @@
+-- The C boundary: the contents that 488 bytes say. Numbers are high byte first, those with a sign in two's complement; bytes past the end are 0.
+use Prim.Native.Nat.{ℕ, _+_, _*_}
+use mathlib.Core.Bool.{Bool}
+use mathlib.Core.List.{List}
+use lib.Dec.{eqb}
+use lib.ListN.{getD}
+use Rattle.bits.specs.Table.{table}
+use Rattle.lent.specs.Digits.{pairOf, quadOf}
+use Rattle.records.specs.Signed.{signedHalf}
+use Rattle.records.specs.Ura.{heldUra}
+use Rattle.records.specs.declared.orbit.Orbit.{Orbit}
+use Rattle.records.specs.declared.clock.Clock.{Clock}
+use Rattle.contents.specs.declared.parts.MaskPart.{MaskPart}
+use Rattle.contents.specs.declared.parts.ClockPart.{ClockPart}
+use Rattle.contents.specs.declared.parts.OrbitPart.{OrbitPart}
+use Rattle.contents.specs.declared.parts.Contents.{Contents}
+
+-- the number that two bytes from `at` on say
+abbrev pub twoAt : List ℕ → ℕ → ℕ
+twoAt s at = pairOf (getD s at 0) (getD s (at + 1) 0)
+
+-- the number that four bytes from `at` on say
+abbrev pub fourAt : List ℕ → ℕ → ℕ
+fourAt s at = quadOf (twoAt s at) (twoAt s (at + 2))
+
+-- a flag of the mask: byte 1 is set, anything else not
+abbrev pub flagAt : List ℕ → ℕ → Bool
+flagAt s i = eqb (getD s (7 + i) 0) 1
+
+-- the flags of slots 1 to 255, from byte 7 on
+unfoldable pub flagsAt : List ℕ → List Bool
+flagsAt s = table (flagAt s) 255
+
+-- clock record: slot (2), IOD Corr (1), C0 (2)
+abbrev pub clockAt : List ℕ → ℕ → Clock
+clockAt s at = record { slot = twoAt s at; corr = getD s (at + 2) 0; c0 = signedHalf 32768 (twoAt s (at + 3)) }
+
+-- clock record i of 23, from byte 271 on
+abbrev pub clockNth : List ℕ → ℕ → Clock
+clockNth s i = clockAt s (271 + 5 * i)
+
+-- the clock records
+unfoldable pub clocksAt : List ℕ → List Clock
+clocksAt s = table (clockNth s) 23
+
+-- orbit record: slot (2), IODN (2), IOD Corr (1), radial, along, cross (2 each), URA's kind (1) and quarters (4)
+abbrev pub orbitAt : List ℕ → ℕ → Orbit
+orbitAt s at =
+    record {
+      slot = twoAt s at;
+      iodn = twoAt s (at + 2);
+      corr = getD s (at + 4) 0;
+      radial = signedHalf 32768 (twoAt s (at + 5));
+      along = signedHalf 32768 (twoAt s (at + 7));
+      cross = signedHalf 32768 (twoAt s (at + 9));
+      ura = heldUra (getD s (at + 11) 0) (fourAt s (at + 12));
+    }
+
+-- orbit record i of 6, from byte 392 on
+abbrev pub orbitNth : List ℕ → ℕ → Orbit
+orbitNth s i = orbitAt s (392 + 16 * i)
+
+-- the orbit records
+unfoldable pub orbitsAt : List ℕ → List Orbit
+orbitsAt s = table (orbitNth s) 6
+
+-- mask part: epoch (4), IOD SSR (1), IODP (1), flags (255)
+unfoldable pub maskIn : List ℕ → MaskPart
+maskIn s = record { epoch = fourAt s 1; ssr = getD s 5 0; iodp = getD s 6 0; bits = flagsAt s }
+
+-- clock part: epoch (4), IOD SSR (1), IODP (1), sub-type or Slot_S (2), count (1), 23 records
+unfoldable pub clocksIn : List ℕ → ClockPart
+clocksIn s =
+    record {
+      epoch = fourAt s 262;
+      ssr = getD s 266 0;
+      iodp = getD s 267 0;
+      start = twoAt s 268;
+      count = getD s 270 0;
+      clocks = clocksAt s;
+    }
+
+-- orbit part: epoch (4), IOD SSR (1), count (1), 6 records
+unfoldable pub orbitsIn : List ℕ → OrbitPart
+orbitsIn s = record { epoch = fourAt s 386; ssr = getD s 390 0; count = getD s 391 0; orbits = orbitsAt s }
+
+-- contents: type (1), mask part, clock part, orbit part
+unfoldable pub contentsOf : List ℕ → Contents
+contentsOf s = record { kind = getD s 0 0; mask = maskIn s; clock = clocksIn s; orbit = orbitsIn s }

@@ -1,0 +1,82 @@
+-- Laws of the clocks' form: a clock reads back as it was written, what the bytes say after each step, and what each step keeps.
+use mathlib.Core.Path.{_≡_, refl, sym, _∙_}
+use mathlib.Core.Logic.{_⊎_}
+use Prim.Native.Nat.{_+_, ℕ, _≤_}
+use mathlib.Core.Bool.{true}
+use mathlib.Core.List.{List, [], _∷_, map}
+use lib.Dec.{eqb}
+use lib.ListN.{getD, length}
+use native.Mathlib.Omega.{arith}
+use Rattle.bits.specs.Bytes.{Kept}
+use Rattle.bits.specs.Table.{table}
+use Rattle.bits.proofs.TableLaws.{table-ext}
+use Rattle.lookback.specs.Store.{Named, put, putAll, unplaced}
+use Rattle.lent.specs.Digits.{flagOf, zigOf}
+use Rattle.lent.specs.Held.{heldsAt}
+use Rattle.lent.proofs.HeldLaws.{put-room, put-view, puts-room, puts-view, Sound, helds-kept}
+use Rattle.lent.proofs.DropLaws.{one-room, drop-room, dropped-view}
+use Rattle.lent.proofs.DigitLaws.{pair-back, quad-back, zag-zig, flag-back}
+use Rattle.held_mask.specs.Size.{size}
+use Rattle.held_clocks.specs.Clocks.{clockAt, clockPlace, noClock, clocksKept, clockBytes, clockOf, clocksAt, putClock, putClocks, dropClock, droppedClocks}
+use Rattle.held_clocks.specs.declared.HeldClock.{HeldClock}
+use Rattle.held_clocks.proofs.ReadLaws.{clock-none}
+
+-- ---- there and back
+-- ---- there and back
+pub clock-long : (h : HeldClock) → length (clockBytes h) ≡ 12
+clock-long h = refl
+
+-- a clock that is held is read as it was written, whatever its fields
+pub clock-sound : (h : HeldClock) → h .has ≡ true → clockOf (clockBytes h) ≡ h
+clock-sound h e = rw (e, quad-back (h .epoch), pair-back (zigOf (h .c0)), zag-zig (h .c0), flag-back (h .placed))
+
+-- no clock is twelve zeros
+pub no-clock-sound : clockOf (clockBytes noClock) ≡ noClock
+no-clock-sound = refl
+
+-- ---- what the bytes say: putting named clocks is `putAll` on the list that the bytes say
+abbrev pub ClocksHeld : List (Named HeldClock) → Type 0
+ClocksHeld [] = Unit {0}
+ClocksHeld (n ∷ ns) = (n .held .has ≡ true) × ClocksHeld ns
+
+clocks-sound : (ns : List (Named HeldClock)) → ClocksHeld ns → Sound clockOf clockBytes 12 clock-long ns
+clocks-sound [] a = tt
+clocks-sound (n ∷ ns) a = (clock-sound (n .held) (a .0), clocks-sound ns (a .1))
+
+module _ (s : List ℕ) (long : length s ≡ size) where
+  pub clock-view : (slot : ℕ) (h : HeldClock) → h .has ≡ true → clocksAt (putClock s slot h) ≡ put (clocksAt s) slot h
+  clock-view slot h e = put-view clockOf clockBytes 12 clock-long s 260 slot h (omega arith) ∙ rw (clock-sound h e)
+
+  pub clocks-view : (ns : List (Named HeldClock)) → ClocksHeld ns → clocksAt (putClocks s ns) ≡ putAll (clocksAt s) ns
+  clocks-view ns a = puts-view clockOf clockBytes 12 clock-long s 260 ns (omega arith) (clocks-sound ns a)
+
+  -- 01, What the ledger keeps: clocks that came by place are gone
+  pub clocks-dropped : clocksAt (droppedClocks s 255) ≡ map (unplaced clocksKept) (clocksAt s)
+  clocks-dropped = dropped-view clocksKept clockOf clockBytes 12 clock-long no-clock-sound s 260 (omega arith)
+
+-- ---- what each step keeps, of bytes of any length
+module _ (s : List ℕ) where
+  pub clock-room : (slot : ℕ) (h : HeldClock) → Kept 260 3320 s (putClock s slot h)
+  clock-room slot h = put-room clockOf clockBytes 12 clock-long s 260 slot h
+
+  pub clocks-room : (ns : List (Named HeldClock)) → Kept 260 3320 s (putClocks s ns)
+  clocks-room ns = puts-room clockOf clockBytes 12 clock-long s 260 ns
+
+  pub drop-one-room : (slot : ℕ) → Kept 260 3320 s (dropClock s slot)
+  drop-one-room slot = one-room clocksKept clockOf clockBytes 12 clock-long s 260 slot
+
+  pub dropped-room : (n : ℕ) → Kept 260 3320 s (droppedClocks s n)
+  dropped-room n = drop-room clocksKept clockOf clockBytes 12 clock-long s 260 n
+
+-- clocks are as they were where their bytes are
+pub clocks-kept : (lo hi : ℕ) (s t : List ℕ) → Kept lo hi s t → (3320 ≤ lo) ⊎ (hi ≤ 260) → clocksAt t ≡ clocksAt s
+clocks-kept lo hi s t k o = helds-kept clockOf 12 260 lo hi s t k o
+
+-- zero bytes, however many, hold no clock
+module _ (s : List ℕ) (zeros : (j : ℕ) → getD s j 0 ≡ 0) where
+  pub zero-clock : (slot : ℕ) → clockAt s slot ≡ noClock
+  zero-clock slot = sym (clock-none s slot (clockPlace slot) refl (λ e. omega (arith, zeros (clockPlace slot))))
+
+  pub zero-clocks : clocksAt s ≡ table (λ (i : ℕ). noClock) 255
+  unfolding heldsAt
+  zero-clocks = table-ext _ _ 255 (λ i l. zero-clock (i + 1))

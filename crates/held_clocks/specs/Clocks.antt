@@ -1,0 +1,80 @@
+-- docs/FORM.md: the clocks that a ledger keeps, as lent bytes: 255 of 12 bytes from byte 260 on. First byte 1 means held; anything else is the absent record.
+use Prim.Native.Nat.{ℕ, _/_, _%_}
+use mathlib.Core.Bool.{true, false}
+use mathlib.Core.List.{List, [], _∷_}
+use lib.Dec.{eqb}
+use lib.IntN.{pos}
+use lib.ListN.{getD}
+use Rattle.bits.specs.Pick.{pick}
+use Rattle.lookback.specs.Store.{Named, Kind}
+use Rattle.lent.specs.Digits.{flagOf, zigOf, zagOf, pairOf, quadOf}
+use Rattle.lent.specs.Held.{place, heldAt, heldsAt, putHeld, putHelds}
+use Rattle.lent.specs.Drop.{dropOne, droppedTo}
+use Rattle.held_clocks.specs.declared.HeldClock.{HeldClock}
+
+-- 01, What the ledger keeps: the slot has no clock
+abbrev pub noClock : HeldClock
+noClock = record { has = false; placed = false; epoch = 0; ssr = 0; corr = 0; c0 = pos 0 }
+
+-- how clocks are kept: those that came by place can be dropped by a mask
+abbrev pub clocksKept : Kind HeldClock
+clocksKept = record { absent = noClock; placed = λ r. r .placed }
+
+-- FORM: held (1), by place (1), epoch (4), IOD SSR (1), IOD Corr (1), C0 (2), 2 spare
+abbrev pub clockBytes : HeldClock → List ℕ
+clockBytes h =
+    flagOf (h .has)
+    ∷ flagOf (h .placed)
+    ∷ h .epoch / 65536 / 256
+    ∷ h .epoch / 65536 % 256
+    ∷ h .epoch % 65536 / 256
+    ∷ h .epoch % 65536 % 256
+    ∷ h .ssr
+    ∷ h .corr
+    ∷ zigOf (h .c0) / 256
+    ∷ zigOf (h .c0) % 256
+    ∷ 0
+    ∷ 0
+    ∷ []
+
+-- FORM: the clock that its bytes say
+abbrev pub clockOf : List ℕ → HeldClock
+clockOf r =
+    pick (eqb (getD r 0 0) 1)
+    (record {
+      has = true;
+      placed = eqb (getD r 1 0) 1;
+      epoch = quadOf (pairOf (getD r 2 0) (getD r 3 0)) (pairOf (getD r 4 0) (getD r 5 0));
+      ssr = getD r 6 0;
+      corr = getD r 7 0;
+      c0 = zagOf (pairOf (getD r 8 0) (getD r 9 0));
+    })
+    noClock
+
+-- FORM: where the clock of a slot begins
+abbrev pub clockPlace : ℕ → ℕ
+clockPlace slot = place 12 260 slot
+
+-- the clock kept for a slot
+abbrev pub clockAt : List ℕ → ℕ → HeldClock
+clockAt s slot = heldAt clockOf 12 s 260 slot
+
+-- the clocks kept for slots 1 to 255
+abbrev pub clocksAt : List ℕ → List HeldClock
+clocksAt s = heldsAt clockOf 12 s 260
+
+-- the bytes with a clock kept for a slot
+abbrev pub putClock : List ℕ → ℕ → HeldClock → List ℕ
+putClock s slot h = putHeld clockBytes 12 s 260 slot h
+
+-- the bytes with named clocks kept, one after the other
+abbrev pub putClocks : List ℕ → List (Named HeldClock) → List ℕ
+putClocks s ns = putHelds clockBytes 12 s 260 ns
+
+-- the bytes with the clock of a slot dropped if it came by place
+abbrev pub dropClock : List ℕ → ℕ → List ℕ
+dropClock s slot = dropOne clocksKept clockOf clockBytes 12 s 260 slot
+
+-- the same for slots 1 to n
+abbrev pub droppedClocks : List ℕ → ℕ → List ℕ
+droppedClocks s n = droppedTo clocksKept clockOf clockBytes 12 s 260 n

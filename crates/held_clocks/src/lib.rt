@@ -1,0 +1,122 @@
+// The clocks that a ledger keeps, as lent bytes: docs/FORM.md. Any bytes are such a form; bytes past the end are 0.
+ghost use mathlib.Core.Path.{_≡_};
+ghost use Rattle.held_clocks.specs.Clocks.{noClock, clockBytes, clockPlace, clockAt, putClock, dropClock, droppedClocks};
+
+// A clock as it is kept: its part's epoch and IOD SSR, and whether it came by place. C0 is raw.
+pub struct HeldClock {
+    pub has: bool,
+    pub placed: bool,
+    pub epoch: u32,
+    pub ssr: u8,
+    pub corr: u8,
+    pub c0: i16,
+}
+
+// A slot that has no clock.
+pub fn no_clock() -> HeldClock
+    ensures { λ r. ⌜ r ≡ noClock ⌝ }
+{
+    HeldClock {
+        has: false,
+        placed: false,
+        epoch: 0,
+        ssr: 0,
+        corr: 0,
+        c0: 0,
+    }
+}
+
+// The bytes of a clock.
+fn clock_bytes(h: HeldClock) -> [u8; 12]
+    ensures { λ r. ⌜ r ≡ clockBytes h ⌝ }
+{
+    let has = lent::flag(h.has);
+    let placed = lent::flag(h.placed);
+    let hi = h.epoch / 65536;
+    let lo = h.epoch % 65536;
+    let z = lent::zig(h.c0);
+    [
+        has,
+        placed,
+        (hi / 256) as u8,
+        (hi % 256) as u8,
+        (lo / 256) as u8,
+        (lo % 256) as u8,
+        h.ssr,
+        h.corr,
+        (z / 256) as u8,
+        (z % 256) as u8,
+        0,
+        0,
+    ]
+}
+
+// Where the clock of a slot begins.
+fn clock_place(slot: u8) -> usize
+    ensures { λ r. ⌜ r ≡ clockPlace slot ⌝ }
+{
+    if slot == 0 {
+        260
+    } else {
+        260 + 12 * ((slot - 1) as usize)
+    }
+}
+
+// The clock kept for a slot.
+pub fn get_clock(t: &[u8], slot: u8) -> HeldClock
+    ensures { λ r. ⌜ r ≡ clockAt (now (t .entry)) slot ⌝ }
+{
+    let at = clock_place(slot);
+    if lent::byte(t, at) != 1 {
+        return no_clock();
+    }
+    let placed = lent::byte(t, at + 1) == 1;
+    let epoch = lent::four(t, at + 2);
+    let ssr = lent::byte(t, at + 6);
+    let corr = lent::byte(t, at + 7);
+    let c0 = lent::zag(lent::two(t, at + 8));
+    HeldClock {
+        has: true,
+        placed,
+        epoch,
+        ssr,
+        corr,
+        c0,
+    }
+}
+
+// A clock is kept for a slot; a slot that is not 1 to 255 is none.
+pub fn put_clock(t: &mut [u8], slot: u16, h: HeldClock)
+    ensures { λ r. ⌜ now (t .exit) ≡ putClock (now (t .entry)) slot h ⌝ }
+{
+    if slot == 0 {
+        return;
+    }
+    if 255 < slot {
+        return;
+    }
+    let at = clock_place(slot as u8);
+    let b = clock_bytes(h);
+    lent::store(t, at, &b);
+}
+
+// A slot's clock is dropped if it came by place.
+fn drop_clock(t: &mut [u8], slot: u8)
+    ensures { λ r. ⌜ now (t .exit) ≡ dropClock (now (t .entry)) slot ⌝ }
+{
+    let h = get_clock(t, slot);
+    if h.placed {
+        put_clock(t, slot as u16, no_clock());
+    }
+}
+
+// All clocks that came by place are dropped.
+pub fn drop_placed(t: &mut [u8])
+    ensures { λ r. ⌜ now (t .exit) ≡ droppedClocks (now (t .entry)) 255 ⌝ }
+{
+    let mut i: u8 = 0;
+    while i < 255 {
+        drop_clock(t, i + 1);
+        i += 1;
+    }
+}

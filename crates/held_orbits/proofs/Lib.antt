@@ -1,0 +1,3 @@
+mod ByteLaws
+pub mod ReadLaws
+pub mod OrbitLaws

@@ -1,0 +1,85 @@
+-- Laws of the orbits' form: an orbit reads back as it was written, what the bytes say after each step, and what each step keeps.
+use mathlib.Core.Path.{_≡_, refl, sym, _∙_}
+use mathlib.Core.Logic.{_⊎_}
+use Prim.Native.Nat.{_+_, ℕ, _≤_}
+use mathlib.Core.Bool.{true}
+use mathlib.Core.List.{List, [], _∷_}
+use lib.Dec.{eqb}
+use lib.ListN.{getD, length}
+use native.Mathlib.Omega.{arith}
+use Rattle.bits.specs.Bytes.{Kept}
+use Rattle.bits.specs.Table.{table}
+use Rattle.bits.proofs.TableLaws.{table-ext}
+use Rattle.lookback.specs.Store.{Named, put, putAll}
+use Rattle.lent.specs.Digits.{zigOf}
+use Rattle.lent.specs.Held.{heldsAt}
+use Rattle.lent.proofs.HeldLaws.{put-room, put-view, puts-room, puts-view, Sound, helds-kept}
+use Rattle.lent.proofs.DigitLaws.{pair-back, quad-back, zag-zig}
+use Rattle.records.specs.Ura.{quartersIn}
+use Rattle.records.proofs.UraLaws.{kind-back}
+use Rattle.held_mask.specs.Size.{size}
+use Rattle.held_orbits.specs.Orbits.{orbitAt, orbitPlace, noOrbit, orbitBytes, orbitOf, orbitsAt, putOrbit, putOrbits}
+use Rattle.held_orbits.specs.declared.HeldOrbit.{HeldOrbit}
+use Rattle.held_orbits.proofs.ReadLaws.{orbit-none}
+
+-- ---- there and back
+pub orbit-long : (h : HeldOrbit) → length (orbitBytes h) ≡ 24
+orbit-long h = refl
+
+-- an orbit that is held is read as it was written, whatever its fields
+pub orbit-sound : (h : HeldOrbit) → h .has ≡ true → orbitOf (orbitBytes h) ≡ h
+orbit-sound h e =
+    rw (
+      e,
+      quad-back (h .epoch),
+      pair-back (h .iodn),
+      pair-back (zigOf (h .radial)),
+      zag-zig (h .radial),
+      pair-back (zigOf (h .along)),
+      zag-zig (h .along),
+      pair-back (zigOf (h .cross)),
+      zag-zig (h .cross),
+      quad-back (quartersIn (h .ura)),
+      kind-back (h .ura),
+    )
+
+-- no orbit is twenty-four zeros
+pub no-orbit-sound : orbitOf (orbitBytes noOrbit) ≡ noOrbit
+no-orbit-sound = refl
+
+-- ---- what the bytes say: putting named orbits is `putAll` on the list that the bytes say
+abbrev pub OrbitsHeld : List (Named HeldOrbit) → Type 0
+OrbitsHeld [] = Unit {0}
+OrbitsHeld (n ∷ ns) = (n .held .has ≡ true) × OrbitsHeld ns
+
+orbits-sound : (ns : List (Named HeldOrbit)) → OrbitsHeld ns → Sound orbitOf orbitBytes 24 orbit-long ns
+orbits-sound [] a = tt
+orbits-sound (n ∷ ns) a = (orbit-sound (n .held) (a .0), orbits-sound ns (a .1))
+
+module _ (s : List ℕ) (long : length s ≡ size) where
+  pub orbit-view : (slot : ℕ) (h : HeldOrbit) → h .has ≡ true → orbitsAt (putOrbit s slot h) ≡ put (orbitsAt s) slot h
+  orbit-view slot h e = put-view orbitOf orbitBytes 24 orbit-long s 3320 slot h (omega arith) ∙ rw (orbit-sound h e)
+
+  pub orbits-view : (ns : List (Named HeldOrbit)) → OrbitsHeld ns → orbitsAt (putOrbits s ns) ≡ putAll (orbitsAt s) ns
+  orbits-view ns a = puts-view orbitOf orbitBytes 24 orbit-long s 3320 ns (omega arith) (orbits-sound ns a)
+
+-- ---- what each step keeps, of bytes of any length
+module _ (s : List ℕ) where
+  pub orbit-room : (slot : ℕ) (h : HeldOrbit) → Kept 3320 9440 s (putOrbit s slot h)
+  orbit-room slot h = put-room orbitOf orbitBytes 24 orbit-long s 3320 slot h
+
+  pub orbits-room : (ns : List (Named HeldOrbit)) → Kept 3320 9440 s (putOrbits s ns)
+  orbits-room ns = puts-room orbitOf orbitBytes 24 orbit-long s 3320 ns
+
+-- orbits are as they were where their bytes are
+pub orbits-kept : (lo hi : ℕ) (s t : List ℕ) → Kept lo hi s t → (9440 ≤ lo) ⊎ (hi ≤ 3320) → orbitsAt t ≡ orbitsAt s
+orbits-kept lo hi s t k o = helds-kept orbitOf 24 3320 lo hi s t k o
+
+-- zero bytes, however many, hold no orbit
+module _ (s : List ℕ) (zeros : (j : ℕ) → getD s j 0 ≡ 0) where
+  pub zero-orbit : (slot : ℕ) → orbitAt s slot ≡ noOrbit
+  zero-orbit slot = sym (orbit-none s slot (orbitPlace slot) refl (λ e. omega (arith, zeros (orbitPlace slot))))
+
+  pub zero-orbits : orbitsAt s ≡ table (λ (i : ℕ). noOrbit) 255
+  unfolding heldsAt
+  zero-orbits = table-ext _ _ 255 (λ i l. zero-orbit (i + 1))

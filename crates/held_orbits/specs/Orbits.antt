@@ -1,0 +1,85 @@
+-- docs/FORM.md: the orbits that a ledger keeps, as lent bytes: 255 of 24 bytes from byte 3320 on, up to its end. First byte 1 means held; anything else is
+-- the absent record.
+use Prim.Native.Nat.{ℕ, _/_, _%_}
+use mathlib.Core.Bool.{true, false}
+use mathlib.Core.List.{List, [], _∷_}
+use lib.Dec.{eqb}
+use lib.IntN.{pos}
+use lib.ListN.{getD}
+use Rattle.bits.specs.Pick.{pick}
+use Rattle.lookback.specs.Store.{Named}
+use Rattle.lent.specs.Digits.{flagOf, zigOf, zagOf, pairOf, quadOf}
+use Rattle.lent.specs.Held.{place, heldAt, heldsAt, putHeld, putHelds}
+use Rattle.records.specs.Ura.{kindOf, quartersIn, heldUra}
+use Rattle.records.specs.declared.ura.Ura.the-variants.{Unknown}
+use Rattle.held_orbits.specs.declared.HeldOrbit.{HeldOrbit}
+
+-- 01, What the ledger keeps: the slot has no orbit
+abbrev pub noOrbit : HeldOrbit
+noOrbit = record { has = false; epoch = 0; ssr = 0; iodn = 0; corr = 0; radial = pos 0; along = pos 0; cross = pos 0; ura = Unknown }
+
+-- FORM: held (1), epoch (4), IOD SSR (1), IODN (2), IOD Corr (1), radial, along, cross (2 each), URA's kind (1) and quarters (4), 4 spare
+abbrev pub orbitBytes : HeldOrbit → List ℕ
+orbitBytes h =
+    flagOf (h .has)
+    ∷ h .epoch / 65536 / 256
+    ∷ h .epoch / 65536 % 256
+    ∷ h .epoch % 65536 / 256
+    ∷ h .epoch % 65536 % 256
+    ∷ h .ssr
+    ∷ h .iodn / 256
+    ∷ h .iodn % 256
+    ∷ h .corr
+    ∷ zigOf (h .radial) / 256
+    ∷ zigOf (h .radial) % 256
+    ∷ zigOf (h .along) / 256
+    ∷ zigOf (h .along) % 256
+    ∷ zigOf (h .cross) / 256
+    ∷ zigOf (h .cross) % 256
+    ∷ kindOf (h .ura)
+    ∷ quartersIn (h .ura) / 65536 / 256
+    ∷ quartersIn (h .ura) / 65536 % 256
+    ∷ quartersIn (h .ura) % 65536 / 256
+    ∷ quartersIn (h .ura) % 65536 % 256
+    ∷ 0
+    ∷ 0
+    ∷ 0
+    ∷ 0
+    ∷ []
+
+-- FORM: the orbit that its bytes say
+abbrev pub orbitOf : List ℕ → HeldOrbit
+orbitOf r =
+    pick (eqb (getD r 0 0) 1)
+    (record {
+      has = true;
+      epoch = quadOf (pairOf (getD r 1 0) (getD r 2 0)) (pairOf (getD r 3 0) (getD r 4 0));
+      ssr = getD r 5 0;
+      iodn = pairOf (getD r 6 0) (getD r 7 0);
+      corr = getD r 8 0;
+      radial = zagOf (pairOf (getD r 9 0) (getD r 10 0));
+      along = zagOf (pairOf (getD r 11 0) (getD r 12 0));
+      cross = zagOf (pairOf (getD r 13 0) (getD r 14 0));
+      ura = heldUra (getD r 15 0) (quadOf (pairOf (getD r 16 0) (getD r 17 0)) (pairOf (getD r 18 0) (getD r 19 0)));
+    })
+    noOrbit
+
+-- FORM: where the orbit of a slot begins
+abbrev pub orbitPlace : ℕ → ℕ
+orbitPlace slot = place 24 3320 slot
+
+-- the orbit kept for a slot
+abbrev pub orbitAt : List ℕ → ℕ → HeldOrbit
+orbitAt s slot = heldAt orbitOf 24 s 3320 slot
+
+-- the orbits kept for slots 1 to 255
+abbrev pub orbitsAt : List ℕ → List HeldOrbit
+orbitsAt s = heldsAt orbitOf 24 s 3320
+
+-- the bytes with an orbit kept for a slot
+abbrev pub putOrbit : List ℕ → ℕ → HeldOrbit → List ℕ
+putOrbit s slot h = putHeld orbitBytes 24 s 3320 slot h
+
+-- the bytes with named orbits kept, one after the other
+abbrev pub putOrbits : List ℕ → List (Named HeldOrbit) → List ℕ
+putOrbits s ns = putHelds orbitBytes 24 s 3320 ns

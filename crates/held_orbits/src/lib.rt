@@ -1,0 +1,135 @@
+// The orbits that a ledger keeps, as lent bytes: docs/FORM.md. Any bytes are such a form; bytes past the end are 0.
+ghost use mathlib.Core.Path.{_≡_};
+ghost use Rattle.held_orbits.specs.Orbits.{noOrbit, orbitBytes, orbitPlace, orbitAt, putOrbit};
+use records::ura::Ura;
+use records::ura::held_ura;
+use records::ura::ura_kind;
+use records::ura::ura_quarters;
+
+// An orbit as it is kept: its part's epoch and IOD SSR. Radial, along and cross are raw.
+pub struct HeldOrbit {
+    pub has: bool,
+    pub epoch: u32,
+    pub ssr: u8,
+    pub iodn: u16,
+    pub corr: u8,
+    pub radial: i16,
+    pub along: i16,
+    pub cross: i16,
+    pub ura: Ura,
+}
+
+// A slot that has no orbit.
+pub fn no_orbit() -> HeldOrbit
+    ensures { λ r. ⌜ r ≡ noOrbit ⌝ }
+{
+    HeldOrbit {
+        has: false,
+        epoch: 0,
+        ssr: 0,
+        iodn: 0,
+        corr: 0,
+        radial: 0,
+        along: 0,
+        cross: 0,
+        ura: Ura::Unknown,
+    }
+}
+
+// The bytes of an orbit.
+fn orbit_bytes(h: HeldOrbit) -> [u8; 24]
+    ensures { λ r. ⌜ r ≡ orbitBytes h ⌝ }
+{
+    let has = lent::flag(h.has);
+    let eh = h.epoch / 65536;
+    let el = h.epoch % 65536;
+    let ra = lent::zig(h.radial);
+    let al = lent::zig(h.along);
+    let cr = lent::zig(h.cross);
+    let u = h.ura;
+    let k = ura_kind(u);
+    let q = ura_quarters(u);
+    let qh = q / 65536;
+    let ql = q % 65536;
+    [
+        has,
+        (eh / 256) as u8,
+        (eh % 256) as u8,
+        (el / 256) as u8,
+        (el % 256) as u8,
+        h.ssr,
+        (h.iodn / 256) as u8,
+        (h.iodn % 256) as u8,
+        h.corr,
+        (ra / 256) as u8,
+        (ra % 256) as u8,
+        (al / 256) as u8,
+        (al % 256) as u8,
+        (cr / 256) as u8,
+        (cr % 256) as u8,
+        k,
+        (qh / 256) as u8,
+        (qh % 256) as u8,
+        (ql / 256) as u8,
+        (ql % 256) as u8,
+        0,
+        0,
+        0,
+        0,
+    ]
+}
+
+// Where the orbit of a slot begins.
+fn orbit_place(slot: u8) -> usize
+    ensures { λ r. ⌜ r ≡ orbitPlace slot ⌝ }
+{
+    if slot == 0 {
+        3320
+    } else {
+        3320 + 24 * ((slot - 1) as usize)
+    }
+}
+
+// The orbit kept for a slot.
+pub fn get_orbit(t: &[u8], slot: u8) -> HeldOrbit
+    ensures { λ r. ⌜ r ≡ orbitAt (now (t .entry)) slot ⌝ }
+{
+    let at = orbit_place(slot);
+    if lent::byte(t, at) != 1 {
+        return no_orbit();
+    }
+    let epoch = lent::four(t, at + 1);
+    let ssr = lent::byte(t, at + 5);
+    let iodn = lent::two(t, at + 6);
+    let corr = lent::byte(t, at + 8);
+    let radial = lent::zag(lent::two(t, at + 9));
+    let along = lent::zag(lent::two(t, at + 11));
+    let cross = lent::zag(lent::two(t, at + 13));
+    let ura = held_ura(lent::byte(t, at + 15), lent::four(t, at + 16));
+    HeldOrbit {
+        has: true,
+        epoch,
+        ssr,
+        iodn,
+        corr,
+        radial,
+        along,
+        cross,
+        ura,
+    }
+}
+
+// An orbit is kept for a slot; a slot that is not 1 to 255 is none.
+pub fn put_orbit(t: &mut [u8], slot: u16, h: HeldOrbit)
+    ensures { λ r. ⌜ now (t .exit) ≡ putOrbit (now (t .entry)) slot h ⌝ }
+{
+    if slot == 0 {
+        return;
+    }
+    if slot > 255 {
+        return;
+    }
+    let at = orbit_place(slot as u8);
+    let b = orbit_bytes(h);
+    lent::store(t, at, &b);
+}

@@ -1,0 +1,6 @@
+pub mod ApartLaws
+pub mod ViewLaws
+pub mod BackLaws
+pub mod RefusalLaws
+pub mod LogLaws
+pub mod ReplayLaws

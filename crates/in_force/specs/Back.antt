@@ -1,0 +1,61 @@
+-- 01, What the ledger keeps: "accepted" and "in force", by looking back over the frames handed in, newest first. Nothing here runs the ledger.
+use Prim.Native.Nat.{ℕ}
+use mathlib.Core.Bool.{Bool}
+use mathlib.Core.List.{List, [], _∷_}
+use mathlib.Core.Option.{Option, none}
+use lib.Dec.{eqb}
+use Rattle.bits.specs.Pick.{pick}
+use Rattle.verdict.specs.declared.Verdict.{Verdict}
+use Rattle.frame.specs.Frame.{contentsOf, foreignTo, refusalWith}
+use Rattle.lookback.specs.Store.{naming, getOr, standingOr, since}
+use Rattle.held_clocks.specs.Clocks.{noClock, clocksKept}
+use Rattle.held_orbits.specs.Orbits.{noOrbit}
+use Rattle.held_clocks.specs.declared.HeldClock.{HeldClock}
+use Rattle.held_orbits.specs.declared.HeldOrbit.{HeldOrbit}
+use Rattle.held_mask.specs.Mask.{HeldMask, noMask, sameMask}
+use Rattle.places.specs.Keeps.{maskOf, orbitsOf, clocksOf, refusalUnder, verdictUnder}
+
+-- 01, What the ledger keeps: the mask that f brings, where it is an accepted type 1; that depends on no other frame
+unfoldable pub maskBy : ℕ → List ℕ → Option HeldMask
+maskBy prn f = pick (eqb (refusalWith (foreignTo prn f) f) 0) (maskOf (contentsOf f)) none
+
+-- 01, Mask in force: that of the last accepted type 1, for a ledger of the PRN after the frames h
+unfoldable pub maskInForce : ℕ → List (List ℕ) → HeldMask
+maskInForce prn [] = noMask
+maskInForce prn (f ∷ h) = getOr (maskBy prn f) (maskInForce prn h)
+
+-- 01, Refusal numbers: the one given to f, handed in after h; 0 if it is taken
+abbrev pub refusalAfter : ℕ → List (List ℕ) → List ℕ → ℕ
+refusalAfter prn h f = refusalUnder prn (maskInForce prn h) f
+
+-- its verdict
+abbrev pub verdictAfter : ℕ → List (List ℕ) → List ℕ → Verdict
+verdictAfter prn h f = verdictUnder (maskInForce prn h) f (refusalAfter prn h f)
+
+-- f, handed in after h, is accepted
+abbrev pub accepted : ℕ → List (List ℕ) → List ℕ → Bool
+accepted prn h f = eqb (refusalAfter prn h f) 0
+
+-- the orbit record of f that names the slot, where f is accepted
+unfoldable pub orbitBy : ℕ → List (List ℕ) → List ℕ → ℕ → Option HeldOrbit
+orbitBy prn h f s = pick (accepted prn h f) (naming s (orbitsOf (contentsOf f .kind) (contentsOf f .orbit))) none
+
+-- the clock record of f that names the slot, by itself or by its place in the mask in force, where f is accepted
+unfoldable pub clockBy : ℕ → List (List ℕ) → List ℕ → ℕ → Option HeldClock
+clockBy prn h f s = pick (accepted prn h f) (naming s (clocksOf (maskInForce prn h) (contentsOf f .kind) (contentsOf f .clock))) none
+
+-- 01, Orbit in force for a slot: the latest accepted orbit record naming it. The latest to arrive counts
+unfoldable pub orbitInForce : ℕ → List (List ℕ) → ℕ → HeldOrbit
+orbitInForce prn [] s = noOrbit
+orbitInForce prn (f ∷ h) s = getOr (orbitBy prn h f s) (orbitInForce prn h s)
+
+-- 01, Clock in force: the latest accepted clock record naming the slot; none if it came by place and any mask accepted after it
+-- differs from the mask it was placed by. ms are the masks accepted after the frames looked at, oldest first
+unfoldable pub clockBack : ℕ → List HeldMask → List (List ℕ) → ℕ → HeldClock
+clockBack prn ms [] s = noClock
+clockBack prn ms (f ∷ h) s =
+    standingOr clocksKept sameMask (clockBy prn h f s) (maskInForce prn h) ms (clockBack prn (since (maskBy prn f) ms) h s)
+
+-- 01, Clock in force for a slot, after the frames h
+abbrev pub clockInForce : ℕ → List (List ℕ) → ℕ → HeldClock
+clockInForce prn h s = clockBack prn [] h s

@@ -1,9 +1,0 @@
-use borrow.Author.Needs.{needs}
-use Rattle.ledger.proofs.take.held_clock.Statement.{statement}
-use Rattle.ledger.proofs.take.held_clock.Tie as tie
-
-returns : tie.Need-returns
-returns c = search needs
-
-pub held-clock-spec : {M : Type 1} → statement M
-held-clock-spec = tie.close (tie.spec returns)

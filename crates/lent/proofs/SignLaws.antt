@@ -1,0 +1,35 @@
+-- A number with its sign as the code computes it: -1 - z turns one side of zero into the other.
+use mathlib.Core.Path.{_≡_, refl, ap}
+use Prim.Native.Nat.{ℕ, zero, suc, _+_, _*_, _/_, _%_}
+use mathlib.Core.Bool.{true, false, true≢false}
+use lib.IntN.{ℤ, pos, negsuc, _-ℤ_, natAbs}
+use lib.Signed.{mag, ltZ}
+use native.Mathlib.Nat.{not-suc-le-zero}
+use native.Mathlib.Omega.{arith}
+use borrow.Author.Tests.{le-ltb, ltb-true, eq-eqb, ne-eqb}
+use Rattle.lent.specs.Digits.{zigOf, zagOf}
+
+pub neg-sub : (d : ℕ) → negsuc 0 -ℤ pos d ≡ negsuc d
+neg-sub zero = refl
+neg-sub (suc d) = ap negsuc (omega arith)
+
+pub neg-flip : (z : ℤ) → ltZ z (pos 0) ≡ true → negsuc 0 -ℤ z ≡ pos (mag z)
+neg-flip (pos x) e = absurd (not-suc-le-zero (ltb-true x 0 e))
+neg-flip (negsuc m) e = simp (le-ltb (suc m) 1 (omega arith)) (ap pos (omega arith))
+
+pub not-neg : (m : ℕ) → ltZ (negsuc m) (pos 0) ≡ false → ⊥
+not-neg m e = true≢false e
+
+pub neg-zig : (z : ℤ) → ltZ z (pos 0) ≡ true → zigOf z ≡ 2 * mag z + 1
+neg-zig (pos x) e = absurd (not-suc-le-zero (ltb-true x 0 e))
+neg-zig (negsuc m) e = refl
+
+pub pos-zig : (z : ℤ) → ltZ z (pos 0) ≡ false → 2 * natAbs z ≡ zigOf z
+pos-zig (pos x) e = refl
+pos-zig (negsuc m) e = absurd (not-neg m e)
+
+pub zag-even : (n : ℕ) → n % 2 ≡ 0 → zagOf n ≡ pos (n / 2)
+zag-even n e = rw (eq-eqb (n % 2) 0 e)
+
+pub zag-odd : (n : ℕ) → n % 2 ≡ 1 → zagOf n ≡ negsuc (n / 2)
+zag-odd n e = rw (ne-eqb (n % 2) 0 (λ q. omega arith))

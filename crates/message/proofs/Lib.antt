@@ -1,3 +1,0 @@
-pub mod JudgeLaws
-pub mod ReadLaws
-pub mod Examples

@@ -1,0 +1,235 @@
+-- What one frame's records name, a turn of a walk at a time, and when a clock part by place is refused.
+use mathlib.Core.Path.{_≡_, refl, sym, _∙_}
+use mathlib.Core.Logic.{_≢_, _⊎_, inl, inr, dite}
+use Prim.Native.Nat.{ℕ, _+_, _-_, _*_, _≤_, _<_}
+use mathlib.Core.Bool.{Bool, true, false, not, _&&_, _||_}
+use mathlib.Core.List.{List, [], _∷_, map}
+use mathlib.Core.Option.{none, some}
+use lib.Dec.{eqb, ltb}
+use lib.ListN.{getD, length, take, drop, drop-of-length-le, length-map}
+use lib.Seq.{drop-cons}
+use native.Mathlib.Decide.{ℕ-discrete}
+use native.Mathlib.Numerals.{add-one}
+use native.Mathlib.Omega.{arith}
+use borrow.Author.Tests.{eq-eqb, ne-eqb, lt-ltb, le-ltb, ltb-true, ltb-false}
+use Rattle.bits.specs.Pick.{pick}
+use Rattle.records.specs.Slots.{setCount, nthSet}
+use Rattle.records.specs.declared.orbit.Orbit.{Orbit}
+use Rattle.records.specs.declared.clock.Clock.{Clock}
+use Rattle.contents.specs.declared.parts.ClockPart.{ClockPart}
+use Rattle.contents.specs.declared.parts.OrbitPart.{OrbitPart}
+use Rattle.contents.specs.declared.parts.Contents.{Contents}
+use Rattle.layout.proofs.LayoutLaws.{pick-all}
+use Rattle.frame.proofs.FrameLaws.{skipped}
+use Rattle.lent.specs.Held.{putHelds, putHeld}
+use Rattle.held_clocks.proofs.ClockLaws.{ClocksHeld}
+use Rattle.held_orbits.proofs.OrbitLaws.{OrbitsHeld}
+use Rattle.held_mask.specs.Mask.{HeldMask, heldMask}
+use Rattle.places.specs.Keeps.{heldOrbit, heldClock, bySlot, byPlace, maskOf, hasOrbits, orbitsOf, needsMask, firstPlace, placeToCheck, otherMask, clocksOf, placeNumber, placeRefusal}
+
+drop-one : {A : Type 0} (l : List A) (i : ℕ) (d : A) → i < length l → drop i l ≡ getD l i d ∷ drop (i + 1) l
+drop-one l i d h = rw (add-one, drop-cons l i d)
+
+-- an array of records in a part is as long as its relation says
+pub length-mapped : (X Y : Type 0) (f : X → Y) (l : List X) (n : ℕ) → length (map f l) ≡ n → length l ≡ n
+length-mapped X Y f l n e = sym (length-map l f) ∙ e
+
+-- ---- a walk over records, a turn and its end
+module _ {R A : Type 0} (bytes : A → List ℕ) (w st : ℕ) (f : R → A) (rs : List R) (j : ℕ) (d : R) (s : List ℕ) where
+  pub slot-step : (slot : R → ℕ) → j < length rs →
+      putHelds bytes w s st (bySlot slot f (drop j rs)) ≡ putHelds bytes w (putHeld bytes w s st (slot (getD rs j d)) (f (getD rs j d))) st (bySlot slot f (drop (j + 1) rs))
+  unfolding putHelds bySlot
+  slot-step slot h = rw (drop-one rs j d h)
+
+  pub slot-end : (slot : R → ℕ) → length rs ≤ j → putHelds bytes w s st (bySlot slot f (drop j rs)) ≡ s
+  unfolding putHelds bySlot
+  slot-end slot h = rw (drop-of-length-le rs h)
+
+  pub place-step : (bits : List Bool) (n : ℕ) → j < length rs →
+      putHelds bytes w s st (byPlace f bits (drop j rs) n) ≡ putHelds bytes w (putHeld bytes w s st (nthSet bits n) (f (getD rs j d))) st (byPlace f bits (drop (j + 1) rs) (n + 1))
+  unfolding putHelds byPlace
+  place-step bits n h = rw (drop-one rs j d h)
+
+  pub place-end : (bits : List Bool) (n : ℕ) → length rs ≤ j → putHelds bytes w s st (byPlace f bits (drop j rs) n) ≡ s
+  unfolding putHelds byPlace
+  place-end bits n h = rw (drop-of-length-le rs h)
+
+-- the walk goes on below 23 and below the count, and stops at the first of the two
+pub turn : (j n : ℕ) → ltb j 23 && ltb j n ≡ true → (j < 23) × (j < n)
+turn j n e = go (ltb j 23) (ltb j n) refl refl e
+  where
+    go : (a b : Bool) → ltb j 23 ≡ a → ltb j n ≡ b → a && b ≡ true → (j < 23) × (j < n)
+    go true true p q e = (ltb-true j 23 p, ltb-true j n q)
+    go true false p q e = absurd (let z : _≡_ {A = ℕ} 0 1 = cc in omega arith)
+    go false b p q e = absurd (let z : _≡_ {A = ℕ} 0 1 = cc in omega arith)
+
+pub stop : (j n : ℕ) → ltb j 23 && ltb j n ≡ false → (23 ≤ j) ⊎ (n ≤ j)
+stop j n e = go (ltb j 23) (ltb j n) refl refl e
+  where
+    go : (a b : Bool) → ltb j 23 ≡ a → ltb j n ≡ b → a && b ≡ false → (23 ≤ j) ⊎ (n ≤ j)
+    go true true p q e = absurd (let z : _≡_ {A = ℕ} 0 1 = cc in omega arith)
+    go true false p q e = inr (ltb-false j n q)
+    go false b p q e = inl (ltb-false j 23 p)
+
+-- nothing is put where nothing is named
+pub put-no : {A : Type 0} (bytes : A → List ℕ) (w st : ℕ) (s : List ℕ) → putHelds bytes w s st [] ≡ s
+unfolding putHelds
+put-no bytes w st s = refl
+
+-- ---- the names of a part, by the type
+module _ (m : HeldMask) (kind : ℕ) (p : ClockPart) where
+  pub clocks-7 : kind ≡ 7 → clocksOf m kind p ≡ bySlot (λ (k : Clock). k .slot) (heldClock false (p .epoch) (p .ssr)) (p .clocks)
+  unfolding clocksOf
+  clocks-7 e = rw (eq-eqb kind 7 e)
+
+  pub clocks-placed : kind ≢ 7 → needsMask kind p ≡ true → clocksOf m kind p ≡ byPlace (heldClock true (p .epoch) (p .ssr)) (m .bits) (take (p .count) (p .clocks)) (firstPlace kind p)
+  unfolding clocksOf
+  clocks-placed n e = rw (ne-eqb kind 7 n, e)
+
+  pub clocks-none : kind ≢ 7 → needsMask kind p ≡ false → clocksOf m kind p ≡ []
+  unfolding clocksOf
+  clocks-none n e = rw (ne-eqb kind 7 n, e)
+
+  -- a part by place is not of type 7
+  pub placed-not-7 : needsMask kind p ≡ true → kind ≢ 7
+  placed-not-7 e k = let z : false ≡ true = rw k at e in let y : _≡_ {A = ℕ} 0 1 = cc in omega arith
+
+module _ (kind : ℕ) (p : OrbitPart) where
+  pub orbits-some : hasOrbits kind ≡ true → orbitsOf kind p ≡ bySlot (λ (o : Orbit). o .slot) (heldOrbit (p .epoch) (p .ssr)) (p .orbits)
+  unfolding orbitsOf
+  orbits-some e = rw e
+
+  pub orbits-none : hasOrbits kind ≡ false → orbitsOf kind p ≡ []
+  unfolding orbitsOf
+  orbits-none e = rw e
+
+-- ---- a type 1 brings a mask and nothing else; no other type brings one
+module _ (c : Contents) where
+  pub mask-1 : c .kind ≡ 1 → maskOf c ≡ some (heldMask (c .mask))
+  unfolding maskOf
+  mask-1 k = rw (eq-eqb (c .kind) 1 k)
+
+  pub mask-other : c .kind ≢ 1 → maskOf c ≡ none
+  unfolding maskOf
+  mask-other k = rw (ne-eqb (c .kind) 1 k)
+
+  pub mask-kind : (m : HeldMask) → maskOf c ≡ some m → c .kind ≡ 1
+  mask-kind m e = dite (ℕ-discrete (c .kind) 1) (λ k. k) (λ k. absurd (let z : _≡_ {A = ℕ} 0 1 = cc (mask-other k) in omega arith))
+
+  module _ (k : c .kind ≡ 1) where
+    pub mask-orbits : orbitsOf (c .kind) (c .orbit) ≡ []
+    unfolding orbitsOf
+    mask-orbits = rw k
+
+    pub mask-clocks : (m : HeldMask) → clocksOf m (c .kind) (c .clock) ≡ []
+    unfolding clocksOf
+    mask-clocks m = rw k
+
+    pub mask-free : (m : HeldMask) → placeRefusal m (c .kind) (c .clock) ≡ 0
+    unfolding placeRefusal
+    mask-free m = rw k
+
+number-some : (kind : ℕ) → 1 ≤ placeNumber kind
+number-some kind = pick-all (λ (n : ℕ). 1 ≤ n) (eqb kind 4) 15 19 (omega arith) (omega arith)
+
+-- ---- 14, 15 and 19, in the order in which they are looked for
+module _ (m : HeldMask) (kind : ℕ) (p : ClockPart) where
+  pub place-free : needsMask kind p ≡ false → placeRefusal m kind p ≡ 0
+  unfolding placeRefusal
+  place-free e = rw e
+
+  module _ (n : needsMask kind p ≡ true) where
+    pub place-absent : m .has ≡ false → placeRefusal m kind p ≡ 14
+    unfolding placeRefusal
+    place-absent h = rw (n, h)
+
+    module _ (h : m .has ≡ true) where
+      pub place-ssr : m .ssr ≢ p .ssr → placeRefusal m kind p ≡ 14
+      unfolding placeRefusal
+      place-ssr d = rw (n, h, ne-eqb (m .ssr) (p .ssr) d)
+
+      module _ (s : m .ssr ≡ p .ssr) where
+        pub place-iodp : m .iodp ≢ p .iodp → placeRefusal m kind p ≡ 14
+        unfolding placeRefusal
+        place-iodp d = rw (n, h, eq-eqb (m .ssr) (p .ssr) s, ne-eqb (m .iodp) (p .iodp) d)
+
+        module _ (i : m .iodp ≡ p .iodp) where
+          pub place-past : setCount (m .bits) < placeToCheck kind p → placeRefusal m kind p ≡ placeNumber kind
+          unfolding placeRefusal
+          place-past l = rw (n, h, eq-eqb (m .ssr) (p .ssr) s, eq-eqb (m .iodp) (p .iodp) i, lt-ltb _ _ l)
+
+          pub place-good : placeToCheck kind p ≤ setCount (m .bits) → placeRefusal m kind p ≡ 0
+          unfolding placeRefusal
+          place-good l = rw (n, h, eq-eqb (m .ssr) (p .ssr) s, eq-eqb (m .iodp) (p .iodp) i, le-ltb _ _ l)
+
+  -- it is none of a frame's own numbers
+  pub place-own : placeRefusal m kind p ≢ 6
+  unfolding placeRefusal
+  place-own =
+      let past = needsMask kind p && ltb (setCount (m .bits)) (placeToCheck kind p) in
+      let number = pick-all (λ (n : ℕ). n ≢ 6) (eqb kind 4) 15 19 (omega arith) (omega arith) in
+      let second = pick-all (λ (n : ℕ). n ≢ 6) past (placeNumber kind) 0 number (omega arith) in
+      pick-all (λ (n : ℕ). n ≢ 6) (needsMask kind p && otherMask m p) 14 (pick past (placeNumber kind) 0) (omega arith) second
+
+  -- where neither applies, the place that is looked at has a satellite
+  pub place-in : needsMask kind p ≡ true → placeRefusal m kind p ≡ 0 → placeToCheck kind p ≤ setCount (m .bits)
+  unfolding placeRefusal
+  place-in n e =
+      let past = needsMask kind p && ltb (setCount (m .bits)) (placeToCheck kind p) in
+      let r14 = skipped 14 (needsMask kind p && otherMask m p) (pick {A = ℕ} past (placeNumber kind) 0) (omega arith) e in
+      let r15 = skipped (placeNumber kind) past 0 (number-some kind) (r14 .1) in
+      let q : ltb (setCount (m .bits)) (placeToCheck kind p) ≡ false = rw n at (r15 .0) in
+      ltb-false _ _ q
+
+-- ---- the first place is not beyond the one that is looked at
+pub first-checked : (kind : ℕ) (p : ClockPart) → needsMask kind p ≡ true → firstPlace kind p ≤ placeToCheck kind p
+first-checked kind p n = go (eqb kind 4) (eqb kind 6) (ltb 0 (p .count)) refl n
+  where
+    go : (a b c : Bool) → ltb 0 (p .count) ≡ c → a || (b && c) ≡ true → pick {A = ℕ} a (23 * p .start + 1) (p .start) ≤ pick {A = ℕ} a (23 * p .start + 1) (p .start + p .count - 1)
+    go true b c e h = omega arith
+    go false true true e h = omega (arith, ltb-true 0 (p .count) e)
+    go false true false e h = let z : _≡_ {A = ℕ} 0 1 = cc in omega arith
+    go false false c e h = let z : _≡_ {A = ℕ} 0 1 = cc in omega arith
+
+pub count-le : (bs : List Bool) → setCount bs ≤ length bs
+unfolding setCount
+count-le [] = omega arith
+count-le (true ∷ bs) = omega (arith, count-le bs)
+count-le (false ∷ bs) = omega (arith, count-le bs)
+
+-- so it lies within a mask of 255 bits
+pub first-near : (m : HeldMask) (kind : ℕ) (p : ClockPart) → length (m .bits) ≡ 255 → needsMask kind p ≡ true → placeRefusal m kind p ≡ 0 → firstPlace kind p ≤ 255
+first-near m kind p long n e = omega (arith, first-checked kind p n, place-in m kind p n e, count-le (m .bits))
+
+-- ---- what is named is held
+pub place-held : (bits : List Bool) (epoch ssr : ℕ) (ks : List Clock) (n : ℕ) → ClocksHeld (byPlace (heldClock true epoch ssr) bits ks n)
+unfolding byPlace
+place-held bits epoch ssr [] n = tt
+place-held bits epoch ssr (k ∷ ks) n = (refl, place-held bits epoch ssr ks (n + 1))
+
+pub slot-held : (epoch ssr : ℕ) (ks : List Clock) → ClocksHeld (bySlot (λ (k : Clock). k .slot) (heldClock false epoch ssr) ks)
+unfolding bySlot
+slot-held epoch ssr [] = tt
+slot-held epoch ssr (k ∷ ks) = (refl, slot-held epoch ssr ks)
+
+pub orbit-held : (epoch ssr : ℕ) (os : List Orbit) → OrbitsHeld (bySlot (λ (o : Orbit). o .slot) (heldOrbit epoch ssr) os)
+unfolding bySlot
+orbit-held epoch ssr [] = tt
+orbit-held epoch ssr (o ∷ os) = (refl, orbit-held epoch ssr os)
+
+pub clocks-held : (m : HeldMask) (kind : ℕ) (p : ClockPart) → ClocksHeld (clocksOf m kind p)
+unfolding clocksOf
+clocks-held m kind p = go (eqb kind 7) (needsMask kind p)
+  where
+    go : (a b : Bool) → ClocksHeld (pick a (bySlot (λ (k : Clock). k .slot) (heldClock false (p .epoch) (p .ssr)) (p .clocks)) (pick b (byPlace (heldClock true (p .epoch) (p .ssr)) (m .bits) (take (p .count) (p .clocks)) (firstPlace kind p)) []))
+    go true b = slot-held (p .epoch) (p .ssr) (p .clocks)
+    go false true = place-held (m .bits) (p .epoch) (p .ssr) (take (p .count) (p .clocks)) (firstPlace kind p)
+    go false false = tt
+
+pub orbits-held : (kind : ℕ) (p : OrbitPart) → OrbitsHeld (orbitsOf kind p)
+unfolding orbitsOf
+orbits-held kind p = go (hasOrbits kind)
+  where
+    go : (b : Bool) → OrbitsHeld (pick b (bySlot (λ (o : Orbit). o .slot) (heldOrbit (p .epoch) (p .ssr)) (p .orbits)) [])
+    go true = orbit-held (p .epoch) (p .ssr) (p .orbits)
+    go false = tt

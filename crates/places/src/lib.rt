@@ -1,0 +1,112 @@
+// What one frame does under the mask in force: whether clocks by place are refused (14, 15, 19), and how records are kept.
+ghost use mathlib.Core.Path.{_≡_};
+ghost use Rattle.held_mask.specs.Mask.{maskAt};
+ghost use Rattle.places.specs.Keeps.{heldOrbit, heldClock, needsMask, firstPlace, placeToCheck, placeNumber, placeRefusal, placeVerdict};
+use contents::parts::ClockPart;
+use held_clocks::HeldClock;
+use held_orbits::HeldOrbit;
+use records::clock::Clock;
+use records::orbit::Orbit;
+use verdict::Verdict;
+use verdict::verdict_of;
+
+// Whether the clock records go by places in the mask.
+pub fn needs_mask(kind: u8, p: ClockPart) -> bool
+    ensures { λ r. ⌜ r ≡ needsMask kind p ⌝ }
+{
+    (kind == 4) | ((kind == 6) & (p.count > 0))
+}
+
+// The place of the first clock record.
+pub fn first_place(kind: u8, p: ClockPart) -> u32
+    ensures { λ r. ⌜ r ≡ firstPlace kind p ⌝ }
+{
+    if kind == 4 {
+        23 * (p.start as u32) + 1
+    } else {
+        p.start as u32
+    }
+}
+
+// The place that must lie within the mask: type 4's first, type 6's last.
+fn place_to_check(kind: u8, p: ClockPart) -> u32
+    ensures { λ r. ⌜ r ≡ placeToCheck kind p ⌝ }
+{
+    if kind == 4 {
+        return 23 * (p.start as u32) + 1;
+    }
+    let end = p.start as u32 + p.count as u32;
+    if end == 0 { 0 } else { end - 1 }
+}
+
+// The number for a place that no satellite has.
+fn place_number(kind: u8) -> u8
+    ensures { λ r. ⌜ r ≡ placeNumber kind ⌝ }
+{
+    if kind == 4 { 15 } else { 19 }
+}
+
+// Why clocks by place are refused under the mask held: 14, 15 or 19; 0 if they are not.
+fn place_refusal(t: &[u8], kind: u8, p: ClockPart) -> u8
+    ensures { λ r. ⌜ r ≡ placeRefusal (maskAt (now (t .entry))) kind p ⌝ }
+{
+    if !needs_mask(kind, p) {
+        return 0;
+    }
+    if !held_mask::has_mask(t) {
+        return 14;
+    }
+    if held_mask::mask_ssr(t) != p.ssr {
+        return 14;
+    }
+    if held_mask::mask_iodp(t) != p.iodp {
+        return 14;
+    }
+    if (held_mask::set_count(t) as u32) < place_to_check(kind, p) {
+        return place_number(kind);
+    }
+    0
+}
+
+// The verdict on clocks by place under the mask held; 19 gives the number of places too.
+pub fn place_verdict(t: &[u8], kind: u8, p: ClockPart) -> Verdict
+    ensures { λ r. ⌜ r ≡ placeVerdict (maskAt (now (t .entry))) (placeRefusal (maskAt (now (t .entry))) kind p) ⌝ }
+{
+    let n = place_refusal(t, kind, p);
+    if n == 19 {
+        return Verdict::Places(held_mask::set_count(t));
+    }
+    verdict_of(n)
+}
+
+// A clock record as it is kept.
+pub fn held_clock(placed: bool, epoch: u32, ssr: u8, k: Clock) -> HeldClock
+    ensures { λ r. ⌜ r ≡ heldClock placed epoch ssr k ⌝ }
+{
+    HeldClock {
+        has: true,
+        placed,
+        epoch,
+        ssr,
+        corr: k.corr,
+        c0: k.c0,
+    }
+}
+
+// An orbit record as it is kept.
+pub fn held_orbit(epoch: u32, ssr: u8, o: Orbit) -> HeldOrbit
+    ensures { λ r. ⌜ r ≡ heldOrbit epoch ssr o ⌝ }
+{
+    let ura = o.ura;
+    HeldOrbit {
+        has: true,
+        epoch,
+        ssr,
+        iodn: o.iodn,
+        corr: o.corr,
+        radial: o.radial,
+        along: o.along,
+        cross: o.cross,
+        ura,
+    }
+}

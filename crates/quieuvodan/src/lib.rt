@@ -1,0 +1,238 @@
+// The library at the C boundary: include/quieuvodan.h. Every function answers 0 or one refusal number; 39 is a lent slice of a wrong length.
+ghost use mathlib.Core.Path.{_≡_};
+ghost use Prim.Native.Nat.{_+_, _*_, _/_, _<_};
+ghost use lib.ListN.{length, replicate};
+ghost use Rattle.bits.specs.Bytes.{storeAt};
+ghost use Rattle.in_force.specs.Bytes.{takeBytes, frameAt, runBytes, framesOf};
+ghost use Rattle.list.specs.Rows.{foundCount, listIn};
+ghost use Rattle.boundary.specs.Detail.{detailOf};
+ghost use Rattle.boundary.specs.Boundary.{openAnswer, openRoom, takeAnswer, detailAnswer, takeRoom, frameNumber, verdictsOf, replayAnswer, replayLedger, replayVerdicts, answerBytes, rowsBytes, rowsAnswer, rowsRoom, rowAnswer, rowRoom, readAnswer, readRoom, frameAnswer, frameRoom, writeAnswer, writeRoom};
+use flat_forms::put_contents;
+use flat_forms::put_row;
+use frame::is_prn;
+use frame::read_frame;
+use from_flat::contents_of;
+use ledger::open::make_fresh;
+use ledger::replay::frame_count;
+use ledger::take::take_in;
+use list::issues::issues_refusal;
+use list::row::RowAnswer;
+use list::row::slot_row;
+use list::rows::row_of_slot;
+use message::read;
+use verdict::Verdict;
+use verdict::number_of;
+use writing::write;
+
+// What a verdict says in one number: its refusal number, then the first failing group and how many fail, or the number of places.
+fn detail(v: Verdict) -> u32
+    ensures { λ r. ⌜ r ≡ detailOf v ⌝ }
+{
+    match v {
+        Verdict::Taken => 0,
+        Verdict::Refused(n) => n as u32,
+        Verdict::Parity(first, failing) => 6 + 256 * (first as u32) + 65536 * (failing as u32),
+        Verdict::Places(set) => 19 + 256 * (set as u32),
+    }
+}
+
+// A fresh ledger for a PRN. 4, 39.
+#[no_mangle]
+pub extern "C" fn qvd_open(ledger: &mut [u8], prn: u8) -> u8
+    ensures answer { λ r. ⌜ r ≡ openAnswer (now (ledger .entry)) prn ⌝ }
+    ensures bytes { λ r. ⌜ now (ledger .exit) ≡ openRoom (now (ledger .entry)) prn ⌝ }
+{
+    if ledger.len() != 9440 {
+        return 39;
+    }
+    if !is_prn(prn) {
+        return 4;
+    }
+    make_fresh(ledger, prn);
+    0
+}
+
+// A frame is taken into a ledger. 1, 3 to 15, 19, 39.
+#[no_mangle]
+pub extern "C" fn qvd_take(ledger: &mut [u8], frame: &[u8]) -> u8
+    ensures answer { λ r. ⌜ r ≡ takeAnswer (now (ledger .entry)) (now (frame .entry)) ⌝ }
+    ensures bytes { λ r. ⌜ now (ledger .exit) ≡ takeRoom (now (ledger .entry)) (now (frame .entry)) ⌝ }
+{
+    if ledger.len() != 9440 {
+        return 39;
+    }
+    number_of(take_in(ledger, frame))
+}
+
+// A frame is taken into a ledger, and the answer also says what the numbers 6 and 19 carry. 1, 3 to 15, 19, 39.
+#[no_mangle]
+pub extern "C" fn qvd_take_detail(ledger: &mut [u8], frame: &[u8]) -> u32
+    ensures answer { λ r. ⌜ r ≡ detailAnswer (now (ledger .entry)) (now (frame .entry)) ⌝ }
+    ensures bytes { λ r. ⌜ now (ledger .exit) ≡ takeRoom (now (ledger .entry)) (now (frame .entry)) ⌝ }
+{
+    if ledger.len() != 9440 {
+        return 39;
+    }
+    detail(take_in(ledger, frame))
+}
+
+// Frame i of a log, from 0, is taken.
+fn take_nth(t: &mut [u8], log: &[u8], i: usize) -> u8
+    requires { ⌜ i < (length (now log) + 124) / 125 ⌝ }
+    ensures answer { λ r. ⌜ r ≡ frameNumber (now (t .entry)) (frameAt (now (log .entry)) i) ⌝ }
+    ensures bytes { λ r. ⌜ now (t .exit) ≡ takeBytes (now (t .entry)) (frameAt (now (log .entry)) i) ⌝ }
+{
+    let a = 125 * i;
+    let left = log.len() - a;
+    let e = if left < 125 { log.len() } else { a + 125 };
+    number_of(take_in(t, &log[a..e]))
+}
+
+// The frames of a log are taken in order, and the verdict of each is kept.
+fn take_all(t: &mut [u8], log: &[u8], verdicts: &mut [u8])
+    requires { ⌜ length (now verdicts) ≡ (length (now log) + 124) / 125 ⌝ }
+    ensures bytes { λ r. ⌜ now (t .exit) ≡ runBytes (now (t .entry)) (framesOf (now (log .entry))) ⌝ }
+    ensures answers { λ r. ⌜ now (verdicts .exit) ≡ verdictsOf (now (t .entry)) (now (log .entry)) ⌝ }
+{
+    let mut i: usize = 0;
+    while i < verdicts.len() {
+        let n = take_nth(t, log, i);
+        verdicts[i] = n;
+        i += 1;
+    }
+}
+
+// A fresh ledger for a PRN takes all frames of a log, one verdict byte a frame; a rest at the end is one more frame. 4, 39.
+#[no_mangle]
+pub extern "C" fn qvd_replay(ledger: &mut [u8], prn: u8, log: &[u8], verdicts: &mut [u8]) -> u8
+    ensures answer { λ r. ⌜ r ≡ replayAnswer (now (ledger .entry)) prn (now (log .entry)) (now (verdicts .entry)) ⌝ }
+    ensures bytes { λ r. ⌜ now (ledger .exit) ≡ replayLedger (now (ledger .entry)) prn (now (log .entry)) (now (verdicts .entry)) ⌝ }
+    ensures answers { λ r. ⌜ now (verdicts .exit) ≡ replayVerdicts (now (ledger .entry)) prn (now (log .entry)) (now (verdicts .entry)) ⌝ }
+{
+    if ledger.len() != 9440 {
+        return 39;
+    }
+    if verdicts.len() != frame_count(log.len()) {
+        return 39;
+    }
+    if !is_prn(prn) {
+        return 4;
+    }
+    make_fresh(ledger, prn);
+    take_all(ledger, log, verdicts);
+    0
+}
+
+// The answer's row, if it is one, is put as row n, from 0; says how many rows there are then.
+fn put_answer(rows: &mut [u8], n: usize, a: RowAnswer) -> usize
+    requires { ⌜ n < 255 ⌝ }
+    ensures count { λ r. ⌜ r ≡ n + foundCount a ⌝ }
+    ensures bytes { λ r. ⌜ now (rows .exit) ≡ storeAt (now (rows .entry)) (27 * n) (answerBytes a) ⌝ }
+{
+    let RowAnswer::Found(r) = a else {
+        return n;
+    };
+    put_row(rows, 27 * n, r);
+    n + 1
+}
+
+// The rows of all slots that qualify are put, one after the other.
+fn put_rows(ledger: &[u8], issues: &[u16], rows: &mut [u8])
+    requires { ⌜ length (now issues) ≡ 255 ⌝ }
+    ensures { λ r. ⌜ now (rows .exit) ≡ storeAt (now (rows .entry)) 0 (rowsBytes (listIn (now (ledger .entry)) (now (issues .entry)))) ⌝ }
+{
+    let mut n: usize = 0;
+    let mut i: usize = 0;
+    while i < 255 {
+        let a = slot_row(ledger, (i + 1) as u8, issues[i]);
+        n = put_answer(rows, n, a);
+        i += 1;
+    }
+}
+
+// All rows in rising slot order, then zeros. 1, 17, 39.
+#[no_mangle]
+pub extern "C" fn qvd_rows(ledger: &[u8], issues: &[u16], rows: &mut [u8]) -> u8
+    ensures answer { λ r. ⌜ r ≡ rowsAnswer (now (ledger .entry)) (now (issues .entry)) (now (rows .entry)) ⌝ }
+    ensures bytes { λ r. ⌜ now (rows .exit) ≡ rowsRoom (now (ledger .entry)) (now (issues .entry)) (now (rows .entry)) ⌝ }
+{
+    if ledger.len() != 9440 {
+        return 39;
+    }
+    if rows.len() != 4698 {
+        return 39;
+    }
+    let why = issues_refusal(issues);
+    if why != 0 {
+        return why;
+    }
+    lent::clear(rows);
+    put_rows(ledger, issues, rows);
+    0
+}
+
+// The row of a slot. 1, 11, 17, 18, 39.
+#[no_mangle]
+pub extern "C" fn qvd_row(ledger: &[u8], issues: &[u16], slot: u16, row: &mut [u8]) -> u8
+    ensures answer { λ r. ⌜ r ≡ rowAnswer (now (ledger .entry)) (now (issues .entry)) slot (now (row .entry)) ⌝ }
+    ensures bytes { λ r. ⌜ now (row .exit) ≡ rowRoom (now (ledger .entry)) (now (issues .entry)) slot (now (row .entry)) ⌝ }
+{
+    if ledger.len() != 9440 {
+        return 39;
+    }
+    if row.len() != 27 {
+        return 39;
+    }
+    let a = row_of_slot(ledger, issues, slot);
+    match a {
+        RowAnswer::Found(r) => {
+            put_row(row, 0, r);
+            0
+        }
+        RowAnswer::Refused(n) => n,
+    }
+}
+
+// The contents of a message. 1, 2, 7 to 13, 39.
+#[no_mangle]
+pub extern "C" fn qvd_read(message: &[u8], contents: &mut [u8]) -> u8
+    ensures answer { λ r. ⌜ r ≡ readAnswer (now (message .entry)) (now (contents .entry)) ⌝ }
+    ensures bytes { λ r. ⌜ now (contents .exit) ≡ readRoom (now (message .entry)) (now (contents .entry)) ⌝ }
+{
+    if contents.len() != 488 {
+        return 39;
+    }
+    let r = read(message);
+    let c = r.contents;
+    let v = r.verdict;
+    put_contents(contents, c);
+    number_of(v)
+}
+
+// The contents of a frame, read without a ledger. 1, 3, 5 to 13, 39.
+#[no_mangle]
+pub extern "C" fn qvd_read_frame(frame: &[u8], contents: &mut [u8]) -> u8
+    ensures answer { λ r. ⌜ r ≡ frameAnswer (now (frame .entry)) (now (contents .entry)) ⌝ }
+    ensures bytes { λ r. ⌜ now (contents .exit) ≡ frameRoom (now (frame .entry)) (now (contents .entry)) ⌝ }
+{
+    if contents.len() != 488 {
+        return 39;
+    }
+    let r = read_frame(frame);
+    let c = r.contents;
+    let v = r.verdict;
+    put_contents(contents, c);
+    number_of(v)
+}
+
+// The message of contents. 1, 8 to 13, 16, 39.
+#[no_mangle]
+pub extern "C" fn qvd_write(contents: &[u8], room: &mut [u8]) -> u8
+    ensures answer { λ r. ⌜ r ≡ writeAnswer (now (contents .entry)) (now (room .entry)) ⌝ }
+    ensures bytes { λ r. ⌜ now (room .exit) ≡ writeRoom (now (contents .entry)) (now (room .entry)) ⌝ }
+{
+    if contents.len() != 488 {
+        return 39;
+    }
+    number_of(write(room, contents_of(contents)))
+}

@@ -1,7 +1,0 @@
-pub mod StoreLaws
-pub mod HeldLaws
-pub mod DropLaws
-pub mod DigitLaws
-pub mod SignLaws
-pub mod PastLaws
-pub mod WalkLaws

@@ -1,5 +1,0 @@
-pub mod Store
-pub mod Held
-pub mod Drop
-pub mod Digits
-pub mod Walk
