@@ -3,16 +3,3 @@ pub mod FitLaws
 pub mod RoomLaws
 pub mod TakenLaws
 pub mod WriteLaws
-pub mod BesideLaws
-pub mod RecordsBack
-pub mod PartsBack
-pub mod StepsBeside
-pub mod CheckBack
-pub mod MessageBack
-pub mod SearchLaws
-pub mod ValueLimits
-pub mod LimitLaws
-pub mod ReadSaid
-pub mod MessageRead
-pub mod UnderLaws
-pub mod RoundTrip

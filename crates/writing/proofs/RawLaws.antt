@@ -1,41 +1,13 @@
--- Laws of a signed number's bits, one bit too wide where the number is out of range.
+-- The bits of a signed number.
 use mathlib.Core.Path.{_≡_, refl}
 use mathlib.Core.Bool.{false}
-use mathlib.Core.Logic.{dite}
-use Prim.Native.Nat.{ℕ, _*_, _<_}
-use native.Mathlib.Decide.{decLt}
-use native.Mathlib.Omega.{arith}
+use Prim.Native.Nat.{ℕ}
 use lib.IntN.{ℤ, pos, negsuc}
 use lib.Signed.{mag, ltZ}
-use borrow.Author.Tests.{lt-ltb, le-ltb}
-use Rattle.records.specs.Signed.{signedHalf, rawHalf}
-use Rattle.records.proofs.SignedLaws.{signed-raw, raw-signed, raw-lt, signed-lt, not-neg}
-use Rattle.writing.specs.Fits.{rawOr}
+use Rattle.records.specs.Signed.{rawHalf}
+use Rattle.records.proofs.SignedLaws.{not-neg}
 
 -- a number that is not negative is its own bits
 pub pos-raw : (half : ℕ) (z : ℤ) → ltZ z (pos 0) ≡ false → rawHalf half z ≡ mag z
 pos-raw half (pos x) e = refl
 pos-raw half (negsuc m) e = absurd (not-neg m e)
-
--- a number within its range has bits that fit
-pub raw-or-lt : (half : ℕ) (z : ℤ) → mag z < half → rawOr half z < 2 * half
-raw-or-lt half z h = rw (lt-ltb (mag z) half h) (raw-lt half z h)
-
--- bits that fit are those of a number within its range
-pub raw-or-mag : (half : ℕ) (z : ℤ) → rawOr half z < 2 * half → mag z < half
-raw-or-mag half z h =
-    dite (decLt (mag z) half)
-    (λ l. l)
-    (λ n.
-    let g : 2 * half < 2 * half = rw (le-ltb (mag z) half (omega arith)) at h in
-    absurd (let y : ⊥ = omega arith in y))
-
--- and say the number
-pub raw-back : (half : ℕ) (z : ℤ) → rawOr half z < 2 * half → signedHalf half (rawOr half z) ≡ z
-raw-back half z h =
-    let l : mag z < half = raw-or-mag half z h in
-    rw (lt-ltb (mag z) half l) (signed-raw half z l)
-
--- the bits that were read are those that are written
-pub raw-or-read : (half x : ℕ) → x < 2 * half → rawOr half (signedHalf half x) ≡ x
-raw-or-read half x h = rw (lt-ltb (mag (signedHalf half x)) half (signed-lt half x h)) (raw-signed half x h)

@@ -104,10 +104,6 @@ content-taken c e =
     (z, not-false (fitsAll c) (first-not 16 0 (not (fitsAll c)) (λ q. omega arith) g .0)))
     (λ n. absurd (n (rw (ne-eqb _ _ n) at e)))
 
-pub content-ok : (c : Contents) → refusalOf c ≡ 0 → fitsAll c ≡ true → contentRefusal c ≡ 0
-unfolding contentRefusal
-content-ok c z f = rw (eq-eqb _ _ z, f)
-
 -- so the layout is narrow
 pub narrow : (c : Contents) → contentRefusal c ≡ 0 → (layoutFor c .orbits ≤ 6) × (layoutFor c .clocks ≤ 23) × (layoutFor c .iodp ≤ 4) × (layoutFor c .start ≤ 9)
 narrow c e =

@@ -1,11 +1,9 @@
 -- The answer of writing and the room at exit, case by case.
-use mathlib.Core.Path.{_≡_, sym, _∙_}
-use mathlib.Core.Logic.{dite, _≢_}
+use mathlib.Core.Path.{_≡_}
+use mathlib.Core.Logic.{_≢_}
 use mathlib.Core.List.{List}
 use Prim.Native.Nat.{ℕ}
 use lib.ListN.{length, replicate}
-use native.Mathlib.Decide.{ℕ-discrete}
-use native.Mathlib.Omega.{arith}
 use borrow.Author.Tests.{eq-eqb, ne-eqb}
 use Rattle.layout.specs.declared.Layout.{Layout}
 use Rattle.contents.specs.declared.parts.Contents.{Contents}
@@ -22,13 +20,6 @@ refuses-room room c n = rw (ne-eqb _ _ n)
 pub refuses-content : (room : List ℕ) (c : Contents) → length room ≡ 61 → writeRefusal room c ≡ contentRefusal (canon c)
 unfolding writeRefusal
 refuses-content room c e = rw (eq-eqb _ _ e) (number-last (contentRefusal (canon c)))
-
--- taken: the room has 61 bytes and nothing applies to the contents
-pub write-taken : (room : List ℕ) (c : Contents) → writeRefusal room c ≡ 0 → (length room ≡ 61) × (contentRefusal (canon c) ≡ 0)
-write-taken room c e =
-    dite (ℕ-discrete (length room) 61)
-    (λ h. (h, sym (refuses-content room c h) ∙ e))
-    (λ n. absurd (let z : _≡_ {A = ℕ} 1 0 = sym (refuses-room room c n) ∙ e in let y : ⊥ = omega arith in y))
 
 -- on a refusal the room is as it was
 pub written-refused : (room : List ℕ) (c : Contents) → writeRefusal room c ≢ 0 → written room c ≡ room

@@ -1,7 +1,7 @@
 -- A search that finds nothing, element by element.
 use mathlib.Core.Path.{_≡_, refl, sym, ap, _∙_}
 use mathlib.Core.Logic.{dite, _≢_}
-use mathlib.Core.Bool.{Bool, true, false, not, _||_, true≢false}
+use mathlib.Core.Bool.{Bool, true, false, _||_, true≢false}
 use mathlib.Core.List.{List, [], _∷_}
 use Prim.Native.Nat.{ℕ, zero, suc, _+_, _-_, _≤_, _<_}
 use lib.Dec.{eqb}
@@ -15,7 +15,7 @@ use Rattle.bits.specs.Some.{anyOf}
 use Rattle.bits.specs.Table.{table}
 use Rattle.bits.proofs.TableLaws.{length-table, getD-table}
 use Rattle.judge.specs.Judge.{isHigh, isSame, isAgain}
-use Rattle.writing.specs.Limits.{Once}
+use Rattle.written_back.specs.Limits.{Once}
 
 pub or-left : (a b : Bool) → (a || b) ≡ false → a ≡ false
 or-left true b e = absurd (true≢false e)

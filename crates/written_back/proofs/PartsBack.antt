@@ -24,11 +24,11 @@ use Rattle.contents.specs.declared.parts.ClockPart.{ClockPart}
 use Rattle.contents.specs.declared.parts.OrbitPart.{OrbitPart}
 use Rattle.layout.proofs.LayoutLaws.{from-some, clock-total}
 use Rattle.canonical.specs.Canon.{canonClockNth, canonClockRows, canonClocks, canonOrbitNth, canonOrbitRows, canonOrbits}
 use Rattle.writing.specs.Fits.{headVals, clockRow, orbitRow}
 use Rattle.writing.specs.Write.{maskWidths, maskRow, maskPut, clocksPut, orbitsPut}
-use Rattle.writing.proofs.BesideLaws.{Beside, rows-beside, beside-fields}
-use Rattle.writing.proofs.RecordsBack.{clock-back, orbit-back, none-back}
+use Rattle.written_back.proofs.BesideLaws.{Beside, rows-beside, beside-fields}
+use Rattle.written_back.proofs.RecordsBack.{clock-back, orbit-back, none-back}
 use Rattle.writing.proofs.TakenLaws.{end-some}
 
 -- ---- a head and n records of one layout after it, in u; and t, which is u but for the bits from lo to hi
 module _ (s t u : List ℕ) (at from lo hi : ℕ) (hs vs ws : List ℕ) (f : ℕ → List ℕ) (n : ℕ) (begin : from ≡ at + total hs) (end : lo ≡ from + total ws * n) (room : lo ≤ 8 * length s) (made : u ≡ putRows (putsAt s at hs vs) from ws f n) (kept : Beside lo hi u t) where

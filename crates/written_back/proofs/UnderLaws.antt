@@ -25,12 +25,12 @@ use Rattle.layout.proofs.LayoutLaws.{pick-all, clock-total}
 use Rattle.canonical.specs.Canon.{layoutFor}
 use Rattle.canonical.proofs.CanonLaws.{layout-read}
 use Rattle.canonical.proofs.KindLaws.{Headed, headed, counted}
 use Rattle.writing.specs.Fits.{headVals, clockRow, orbitRow}
-use Rattle.writing.specs.Write.{headPut, maskWidths, maskRow, maskPut, clocksPut, orbitsPut, partsPut, messageOf, written}
-use Rattle.writing.proofs.CheckBack.{check-beside}
-use Rattle.writing.proofs.PartsBack.{one-bit}
-use Rattle.writing.proofs.ReadSaid.{Said, mask-said, clock-head-said, orbit-head-said, clocks-said, orbits-said}
+use Rattle.writing.specs.Write.{headPut, maskWidths, maskRow, maskPut, clocksPut, orbitsPut, partsPut, messageOf}
+use Rattle.written_back.proofs.CheckBack.{check-beside}
+use Rattle.written_back.proofs.PartsBack.{one-bit}
+use Rattle.written_back.proofs.ReadSaid.{Said, mask-said, clock-head-said, orbit-head-said, clocks-said, orbits-said}
 use Rattle.writing.proofs.TakenLaws.{few}
 
 -- each bit of t is that of s, or 0
 abbrev pub Under : List ℕ → List ℕ → Type 0

@@ -22,12 +22,12 @@ use Rattle.layout.proofs.LayoutLaws.{pick-all}
 use Rattle.verdict.proofs.NumberLaws.{number-back, number-last}
 use Rattle.canonical.specs.Canon.{layoutFor, canon}
 use Rattle.canonical.proofs.CanonLaws.{canon-twice}
 use Rattle.writing.specs.Fits.{fitsAll}
-use Rattle.writing.specs.Write.{partsPut, checkPut, messageOf, contentRefusal, written}
-use Rattle.writing.proofs.BesideLaws.{Beside, beside-field}
+use Rattle.writing.specs.Write.{partsPut, checkPut, messageOf, contentRefusal}
+use Rattle.written_back.proofs.BesideLaws.{Beside, beside-field}
 use Rattle.writing.proofs.TakenLaws.{first-not, content-taken}
-use Rattle.writing.proofs.CheckBack.{check-beside, check-right}
-use Rattle.writing.proofs.MessageBack.{contents-back, parts-beside}
+use Rattle.written_back.proofs.CheckBack.{check-beside, check-right}
+use Rattle.written_back.proofs.MessageBack.{contents-back, parts-beside}
 
 -- t is a message that says c: 61 bytes, the last two bits zero, the check right, the contents within 8 to 13
 pub record Message (t : List ℕ) (c : Contents) : Type 0 where
@@ -43,15 +43,14 @@ unfolding readMessage
 message-taken t c r = rw (eq-eqb _ _ (r .long), eq-eqb _ _ (r .last), r .check, r .contents, eq-eqb _ _ (r .judged))
 
 -- the canonical form has a mask of 255 bits
-mask-long : (c : Contents) → length (c .mask .bits) ≡ 255 → length (canon c .mask .bits) ≡ 255
+pub mask-long : (c : Contents) → length (c .mask .bits) ≡ 255 → length (canon c .mask .bits) ≡ 255
 unfolding canon noMask
 mask-long c e = pick-all (λ (m : MaskPart). length (m .bits) ≡ 255) (layoutFor c .mask) (c .mask) noMask e (length-table (λ (i : ℕ). false) 255)
 
 -- canonical contents that no refusal applies to, put into a room whose last two bits are zero
-put-message : (s : List ℕ) (c : Contents) → length s ≡ 61 → fieldAt s 486 2 ≡ 0 → length (c .mask .bits) ≡ 255 → refusalOf (canon c) ≡ 0 → fitsAll (canon c) ≡ true → Message (checkPut (partsPut s (canon c) (layoutFor (canon c)))) (canon c)
-put-message s c len last bits ok fit =
+put-message : (s : List ℕ) (c : Contents) → length s ≡ 61 → fieldAt s 486 2 ≡ 0 → length (canon c .mask .bits) ≡ 255 → refusalOf (canon c) ≡ 0 → fitsAll (canon c) ≡ true → Message (checkPut (partsPut s (canon c) (layoutFor (canon c)))) (canon c)
+put-message s c len last long ok fit =
     let d = canon c in
-    let long = mask-long c bits in
     let p = partsPut s d (layoutFor d) in
     let b : Beside 0 462 s p = parts-beside s d len long ok fit in
     let k : Beside 462 486 p (checkPut p) = check-beside p in
@@ -70,7 +69,7 @@ zeros-last : fieldAt (replicate 61 0) 486 2 ≡ 0
 unfolding fieldAt bitAt
 zeros-last = refl
 
-pub message-read : (c : Contents) → length (c .mask .bits) ≡ 255 → contentRefusal (canon c) ≡ 0 → Message (messageOf (canon c)) (canon c)
+pub message-read : (c : Contents) → length (canon c .mask .bits) ≡ 255 → contentRefusal (canon c) ≡ 0 → Message (messageOf (canon c)) (canon c)
 unfolding messageOf
 message-read c bits e =
     let h = content-taken (canon c) e in

@@ -1,10 +1,10 @@
--- 01, Message fields and Refusal numbers 8 to 13 and 16: the limits of canonical contents, field by field.
+-- 01, Message fields and Refusal numbers 8 to 13 and 16: the limits of contents in canonical form, field by field.
 use mathlib.Core.Path.{_≡_}
 use mathlib.Core.Logic.{_≢_}
 use mathlib.Core.Bool.{Bool, true, false}
 use Prim.Native.Nat.{ℕ, _-_, _^_, _≤_, _<_}
 use lib.IntN.{ℤ, pos, negsuc}
-use lib.ListN.{getD}
+use lib.ListN.{getD, length}
 use Rattle.bits.specs.Pick.{pick}
 use Rattle.records.specs.Ura.{quartersOf}
 use Rattle.records.specs.Orbit.{blankOrbit}
@@ -18,31 +18,31 @@ use Rattle.judge.specs.Judge.{isKind}
 use Rattle.contents.specs.declared.parts.Contents.{Contents}
 use Rattle.canonical.specs.Canon.{layoutFor}
 
--- 01: two's complement of n bits, the whole range: from -2 ^ (n - 1), which is -1 - (2 ^ (n - 1) - 1), to 2 ^ (n - 1) - 1
+-- 01, Message fields: two's complement of n bits, the whole range: from -2 ^ (n - 1), which is -1 - (2 ^ (n - 1) - 1), to 2 ^ (n - 1) - 1
 abbrev pub Ranged : ℕ → ℤ → Type 0
 Ranged n (pos x) = x < 2 ^ (n - 1)
 Ranged n (negsuc m) = m < 2 ^ (n - 1)
 
--- 01, URA: unknown, quarters that one of the codes 1 to 62 gives, or above
+-- 01, Message fields, URA, and 16: unknown, quarters that one of the codes 1 to 62 gives, or above
 abbrev pub Coded : Ura → Type 0
 Coded Unknown = Unit {0}
 Coded (Quarters q) = (code : ℕ) × (1 ≤ code) × (code ≤ 62) × (quartersOf code ≡ q)
 Coded Above = Unit {0}
 
--- 01: epoch e to 86399, IOD SSR s [2], IODP i [p], sub-type or Slot_S v [w]
+-- 01, 10: epoch e to 86399; 16: IOD SSR s [2], IODP i [p], sub-type or Slot_S v [w]
 pub record HeadLimits (p w e s i v : ℕ) : Type 0 where
   pub epoch : e ≤ 86399
   pub ssr : s < 2 ^ 2
   pub iodp : i < 2 ^ p
   pub start : v < 2 ^ w
 
--- 01: Sat Slot to 255, in a type that has none 0; IOD Corr [3], C0 [15]
+-- 01, 11: Sat Slot to 255, in a type whose clocks have none 0; 16: IOD Corr [3], C0 [15]
 pub record ClockLimits (slotted : Bool) (k : Clock) : Type 0 where
   pub slot : k .slot ≤ pick slotted 255 0
   pub corr : k .corr < 2 ^ 3
   pub c0 : Ranged 15 (k .c0)
 
--- 01: Sat Slot to 255, IODN [10], IOD Corr [3], radial [15], along [13], cross [13], URA
+-- 01, 11: Sat Slot to 255; 16: IODN [10], IOD Corr [3], radial [15], along [13], cross [13], URA
 pub record OrbitLimits (o : Orbit) : Type 0 where
   pub slot : o .slot ≤ 255
   pub iodn : o .iodn < 2 ^ 10
@@ -52,20 +52,29 @@ pub record OrbitLimits (o : Orbit) : Type 0 where
   pub cross : Ranged 13 (o .cross)
   pub ura : Coded (o .ura)
 
--- 01: a slot that is not blank stands once among n
+-- 01, 12: a slot that is not blank stands once among n
 abbrev pub Once : ℕ → (ℕ → ℕ) → Type 0
 Once n slot = (i j : ℕ) → i < j → j < n → slot i ≢ 0 → slot j ≢ slot i
 
--- 01: contents within their limits
+-- 01: the limits of contents
 pub record Limits (c : Contents) : Type 0 where
+  -- 01, 8: the type is 1, 2, 4, 6, 7 or 63
   pub kind : isKind (c .kind) ≡ true
+  -- 01, 9: the parts end by bit 462, and so NumC and NumO are within their widths
   pub end : endOf (layoutFor c) ≤ 462
+  -- 01, 10 and 16: the head of each part, with IODP [4] in types 1, 4 and 6, sub-type [5] in 4, Slot_S [9] in 6
   pub mask : HeadLimits 4 0 (c .mask .epoch) (c .mask .ssr) (c .mask .iodp) 0
   pub clock : HeadLimits (layoutFor c .iodp) (layoutFor c .start) (c .clock .epoch) (c .clock .ssr) (c .clock .iodp) (c .clock .start)
   pub orbit : HeadLimits 0 0 (c .orbit .epoch) (c .orbit .ssr) 0 0
+  -- 01, 11: Slot_S is 1 to 255 where NumC > 0
   pub start : c .kind ≡ 6 → 0 < c .clock .count → (1 ≤ c .clock .start) × (c .clock .start ≤ 255)
+  -- 01, 11 and 16: each record, of up to 23 clocks and six orbits
   pub clocks : (i : ℕ) → i < 23 → ClockLimits (layoutFor c .slotted) (getD (c .clock .clocks) i blankClock)
   pub orbits : (i : ℕ) → i < 6 → OrbitLimits (getD (c .orbit .orbits) i blankOrbit)
+  -- 01, 12: no slot twice among the clocks, nor among the orbits
   pub clocks-once : Once 23 (λ (i : ℕ). getD (c .clock .clocks) i blankClock .slot)
   pub orbits-once : Once 6 (λ (i : ℕ). getD (c .orbit .orbits) i blankOrbit .slot)
+  -- 01, Message fields: mask [255], a bit for each slot
+  pub bits : length (c .mask .bits) ≡ 255
+  -- 01, 13: no bit in 175 to 255, counted from 1
   pub reserved : (i : ℕ) → 174 ≤ i → getD (c .mask .bits) i false ≡ false

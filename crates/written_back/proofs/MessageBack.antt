@@ -21,14 +21,15 @@ use Rattle.layout.specs.declared.Layout.{Layout}
 use Rattle.contents.specs.declared.parts.Contents.{Contents}
 use Rattle.canonical.specs.Canon.{canonClocks, canonOrbits, layoutFor, canon}
 use Rattle.canonical.proofs.KindLaws.{Headed, headed, Alone, alone, layout-same}
 use Rattle.writing.specs.Fits.{clockRow, orbitRow, fitsAll}
 use Rattle.writing.specs.Write.{headPut, maskPut, clocksPut, orbitsPut, partsPut, checkPut}
-use Rattle.writing.proofs.FitLaws.{Parts, fit-parts, not-so, fits-within, all-fit}
+use Rattle.writing.proofs.FitLaws.{not-so, all-fit}
+use Rattle.written_back.proofs.WithinLaws.{Parts, fit-parts, fits-within}
 use Rattle.writing.proofs.TakenLaws.{judged, few}
-use Rattle.writing.proofs.BesideLaws.{Beside, beside-then, beside-wide, beside-fields}
-use Rattle.writing.proofs.StepsBeside.{head-beside, mask-beside, clocks-beside, orbits-beside}
-use Rattle.writing.proofs.CheckBack.{check-beside}
-use Rattle.writing.proofs.PartsBack.{mask-back, clocks-back, orbits-back}
+use Rattle.written_back.proofs.BesideLaws.{Beside, beside-then, beside-wide, beside-fields}
+use Rattle.written_back.proofs.StepsBeside.{head-beside, mask-beside, clocks-beside, orbits-beside}
+use Rattle.written_back.proofs.CheckBack.{check-beside}
+use Rattle.written_back.proofs.PartsBack.{mask-back, clocks-back, orbits-back}
 
 module _ (s : List ℕ) (c : Contents) (len : length s ≡ 61) (bits : length (c .mask .bits) ≡ 255) (ok : refusalOf c ≡ 0) (fit : fitsAll c ≡ true) where
   l : Layout

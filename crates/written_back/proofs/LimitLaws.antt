@@ -17,14 +17,27 @@ use Rattle.layout.specs.Layout.{partWidths, endOf}
 use Rattle.judge.specs.Judge.{clockSlots, orbitSlots, isKind, tooLong, late, isHigh, badStart, highSlot, isAgain, twice, isSet, reservedBit, refusalOf}
 use Rattle.contents.specs.declared.parts.Contents.{Contents}
 use Rattle.canonical.specs.Canon.{layoutFor, canon}
 use Rattle.writing.specs.Fits.{clockRow, orbitRow, fitsAll}
-use Rattle.writing.specs.Limits.{Once, Limits}
+use Rattle.written_back.specs.Limits.{Once, Limits}
 use Rattle.writing.specs.Write.{contentRefusal, writeRefusal}
-use Rattle.writing.proofs.FitLaws.{fits-within, within-fits, all-fit, all-fits, fit-parts, parts-fit}
-use Rattle.writing.proofs.SearchLaws.{or-left, or-right, eqb-no, none-found, found-none, low-found, found-low, single-found, found-single}
-use Rattle.writing.proofs.TakenLaws.{first-not, content-taken, content-ok}
-use Rattle.writing.proofs.ValueLimits.{slot-low, clock-within, within-clock, orbit-within, within-orbit, head-within, within-head}
-use Rattle.writing.proofs.WriteLaws.{refuses-content, write-taken}
+use Rattle.writing.proofs.FitLaws.{all-fit}
+use Rattle.written_back.proofs.WithinLaws.{fits-within, within-fits, all-fits, fit-parts, parts-fit}
+use Rattle.written_back.proofs.SearchLaws.{or-left, or-right, eqb-no, none-found, found-none, low-found, found-low, single-found, found-single}
+use Rattle.writing.proofs.TakenLaws.{first-not, content-taken}
+use Rattle.written_back.proofs.ValueLimits.{slot-low, clock-within, within-clock, orbit-within, within-orbit, head-within, within-head}
+use Rattle.writing.proofs.WriteLaws.{refuses-room, refuses-content}
+
+-- where 8 to 13 do not apply, nor 16, none does
+pub content-ok : (c : Contents) → refusalOf c ≡ 0 → fitsAll c ≡ true → contentRefusal c ≡ 0
+unfolding contentRefusal
+content-ok c z f = rw (eq-eqb _ _ z, f)
+
+-- taken: the room has 61 bytes and nothing applies to the contents
+pub write-taken : (room : List ℕ) (c : Contents) → writeRefusal room c ≡ 0 → (length room ≡ 61) × (contentRefusal (canon c) ≡ 0)
+write-taken room c e =
+    dite (ℕ-discrete (length room) 61)
+    (λ h. (h, sym (refuses-content room c h) ∙ e))
+    (λ n. absurd (let z : _≡_ {A = ℕ} 1 0 = sym (refuses-room room c n) ∙ e in let y : ⊥ = omega arith in y))
 
 -- the slots of the records
 abbrev clockSlot : Contents → ℕ → ℕ
@@ -146,8 +159,8 @@ judged-all c e =
     let n13 = first-not 13 _ (reservedBit (c .mask .bits)) (λ z. omega arith) (n12 .1) in
     (not-false (isKind (c .kind)) (n8 .0), ltb-false 462 (endOf (layoutFor c)) (n9 .0), n10 .0, n11 .0, n12 .0, n13 .0)
 
-content-limits : (c : Contents) → contentRefusal c ≡ 0 → Limits c
-content-limits c e =
+content-limits : (c : Contents) → length (c .mask .bits) ≡ 255 → contentRefusal c ≡ 0 → Limits c
+content-limits c long e =
     let l = layoutFor c in
     let k = content-taken c e in
     let j = judged-all c (k .0) in
@@ -172,9 +185,10 @@ content-limits c e =
       orbits = λ i b. within-orbit _ (found-orbits c (or-right hk ho high) i b) (fits-within orbitWidths _ tt (all-fit orbitWidths (orbitRow (c .orbit .orbits)) 6 (f .4) i b));
       clocks-once = once-clocks c (or-left ak ao (j .4));
       orbits-once = once-orbits c (or-right ak ao (j .4));
+      bits = long;
       reserved = reserved-right c (j .5);
     }
 
 -- what is taken is within its limits
-pub taken-limits : (room : List ℕ) (c : Contents) → writeRefusal room c ≡ 0 → Limits (canon c)
-taken-limits room c e = content-limits (canon c) (write-taken room c e .1)
+pub taken-limits : (room : List ℕ) (c : Contents) → length (canon c .mask .bits) ≡ 255 → writeRefusal room c ≡ 0 → Limits (canon c)
+taken-limits room c long e = content-limits (canon c) long (write-taken room c e .1)

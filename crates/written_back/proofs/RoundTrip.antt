@@ -1,4 +1,4 @@
--- THE ROUND TRIP, both ways, stated over the field rules of 01.
+-- Demand 2, and the round trip both ways, stated over the field rules of 01.
 use mathlib.Core.Path.{_≡_, sym, ap, _∙_}
 use mathlib.Core.Logic.{_≢_, _⊎_}
 use mathlib.Core.List.{List}
@@ -8,38 +8,41 @@ use Rattle.bits.specs.Bits.{bitAt}
 use Rattle.contents.specs.Parts.{contentsAt}
 use Rattle.message.specs.Read.{answer, readMessage}
 use Rattle.contents.specs.declared.parts.Contents.{Contents}
-use Rattle.message.specs.declared.Reading.{Reading}
+use Rattle.verdict.specs.Verdict.{verdictOf}
 use Rattle.verdict.specs.declared.Verdict.the-variants.{Taken}
 use Rattle.canonical.specs.Canon.{canon}
 use Rattle.canonical.proofs.CanonLaws.{canon-read, layout-read}
 use Rattle.writing.specs.Write.{contentRefusal, writeRefusal, written}
-use Rattle.writing.proofs.TakenLaws.{content-ok, judged}
-use Rattle.writing.proofs.WriteLaws.{refuses-content, write-taken, written-taken}
-use Rattle.writing.proofs.ReadSaid.{read-fits}
-use Rattle.writing.specs.Limits.{Limits}
-use Rattle.writing.proofs.LimitLaws.{limits-taken, taken-limits}
-use Rattle.writing.proofs.MessageRead.{Message, message-taken, message-read, read-mask-long, reading-answer, reading-judged}
-use Rattle.writing.proofs.UnderLaws.{under-message}
+use Rattle.writing.proofs.TakenLaws.{judged}
+use Rattle.writing.proofs.WriteLaws.{refuses-content, written-taken}
+use Rattle.written_back.specs.Limits.{Limits}
+use Rattle.written_back.specs.Demand2.{takenWith, Demand2}
+use Rattle.written_back.proofs.ReadSaid.{read-fits}
+use Rattle.written_back.proofs.LimitLaws.{content-ok, write-taken, limits-taken, taken-limits}
+use Rattle.written_back.proofs.MessageRead.{Message, message-taken, mask-long, message-read, read-mask-long, reading-answer, reading-judged}
+use Rattle.written_back.proofs.UnderLaws.{under-message}
 
 -- contents are taken, into any room of 61 bytes, exactly if they are within their limits
-pub taken-exactly : (room : List ℕ) (c : Contents) → length room ≡ 61 → (Limits (canon c) → writeRefusal room c ≡ 0) × (writeRefusal room c ≡ 0 → Limits (canon c))
-taken-exactly room c long = (limits-taken room c long, taken-limits room c)
+pub taken-exactly : (room : List ℕ) (c : Contents) → length room ≡ 61 → length (c .mask .bits) ≡ 255 → (Limits (canon c) → writeRefusal room c ≡ 0) × (writeRefusal room c ≡ 0 → Limits (canon c))
+taken-exactly room c long bits = (limits-taken room c long, taken-limits room c (mask-long c bits))
 
 -- what is written, where nothing is refused, is a message that says the contents in canonical form
-pub written-message : (room : List ℕ) (c : Contents) → length (c .mask .bits) ≡ 255 → writeRefusal room c ≡ 0 → Message (written room c) (canon c)
+pub written-message : (room : List ℕ) (c : Contents) → length (canon c .mask .bits) ≡ 255 → writeRefusal room c ≡ 0 → Message (written room c) (canon c)
 written-message room c bits e = rw (written-taken room c e) (message-read c bits (write-taken room c e .1))
 
--- 01, demand 2: reading what was written gives the contents, with blank records and absent parts as zeros
-pub round-trip : (room : List ℕ) (c : Contents) → length (c .mask .bits) ≡ 255 → writeRefusal room c ≡ 0 → readMessage (written room c) ≡ answer 0 (canon c)
+-- reading what was written gives the contents, with blank records and absent parts as zeros
+pub round-trip : (room : List ℕ) (c : Contents) → length (canon c .mask .bits) ≡ 255 → writeRefusal room c ≡ 0 → readMessage (written room c) ≡ takenWith (canon c)
+unfolding answer
 round-trip room c bits e = message-taken (written room c) (canon c) (written-message room c bits e)
 
--- what the writer takes, the reader takes
-pub reader-takes : (room : List ℕ) (c : Contents) → length (c .mask .bits) ≡ 255 → writeRefusal room c ≡ 0 → readMessage (written room c) .verdict ≡ Taken
-unfolding answer
-reader-takes room c bits e = ap (λ (r : Reading). r .verdict) (round-trip room c bits e)
+-- DEMAND 2
+pub demand-2 : Demand2
+demand-2 room c long h =
+    let e = limits-taken room c long h in
+    record { taken = ap verdictOf e; back = round-trip room c (h .bits) e }
 
 -- two contents of different canonical form give different messages
-pub messages-differ : (room room′ : List ℕ) (c d : Contents) → length (c .mask .bits) ≡ 255 → length (d .mask .bits) ≡ 255 → writeRefusal room c ≡ 0 → writeRefusal room′ d ≡ 0 → canon c ≢ canon d → written room c ≢ written room′ d
+pub messages-differ : (room room′ : List ℕ) (c d : Contents) → length (canon c .mask .bits) ≡ 255 → length (canon d .mask .bits) ≡ 255 → writeRefusal room c ≡ 0 → writeRefusal room′ d ≡ 0 → canon c ≢ canon d → written room c ≢ written room′ d
 messages-differ room room′ c d p q e f n w =
     n (sym (written-message room c p e .contents) ∙ ap (λ (t : List ℕ). contentsAt t 0) w ∙ written-message room′ d q f .contents)
 
@@ -53,9 +56,10 @@ reading-written s room long e =
 
 -- reading what was written gives again what was read
 pub read-again : (s room : List ℕ) → length room ≡ 61 → readMessage s .verdict ≡ Taken → readMessage (written room (contentsAt s 0)) ≡ readMessage s
+unfolding answer
 read-again s room long e =
-    round-trip room (contentsAt s 0) (read-mask-long s) (reading-written s room long e)
-    ∙ ap (answer 0) (canon-read s 0)
+    round-trip room (contentsAt s 0) (mask-long (contentsAt s 0) (read-mask-long s)) (reading-written s room long e)
+    ∙ ap takenWith (canon-read s 0)
     ∙ sym (reading-answer s e)
 
 -- and each of its first 462 bits is that of the message read, or 0: reserved bits and blank records are zeroed

@@ -25,9 +25,9 @@ use Rattle.contents.specs.declared.parts.ClockPart.{ClockPart}
 use Rattle.contents.specs.declared.parts.OrbitPart.{OrbitPart}
 use Rattle.layout.proofs.LayoutLaws.{pick-all}
 use Rattle.canonical.proofs.CanonLaws.{layout-read}
 use Rattle.writing.specs.Fits.{clockVals, orbitVals, headVals, clockRow, orbitRow, fitsAll}
-use Rattle.writing.proofs.RawLaws.{raw-or-read}
-use Rattle.writing.proofs.FitLaws.{within-fits, all-fits, parts-fit}
+use Rattle.written_back.proofs.RawBack.{raw-or-read}
+use Rattle.written_back.proofs.WithinLaws.{within-fits, all-fits, parts-fit}
 
 -- each value is the field of s in its place, or 0
 abbrev pub Said : List ℕ → ℕ → List ℕ → List ℕ → Type 0

@@ -19,9 +19,9 @@ use Rattle.records.specs.declared.orbit.Orbit.{Orbit}
 use Rattle.records.specs.declared.clock.Clock.{Clock}
 use Rattle.records.proofs.UraLaws.{code-right}
 use Rattle.layout.specs.Layout.{partWidths}
 use Rattle.writing.specs.Fits.{clockVals, orbitVals, headVals}
-use Rattle.writing.specs.Limits.{Ranged, Coded, HeadLimits, ClockLimits, OrbitLimits}
-use Rattle.writing.proofs.RawLaws.{raw-or-lt, raw-or-mag}
+use Rattle.written_back.specs.Limits.{Ranged, Coded, HeadLimits, ClockLimits, OrbitLimits}
+use Rattle.written_back.proofs.RawBack.{raw-or-lt, raw-or-mag}
 
 -- ---- a signed number
 ranged-mag : (n : ℕ) (z : ℤ) → Ranged n z → mag z < 2 ^ (n - 1)
@@ -114,4 +114,4 @@ pub head-within : (iodp start epoch ssr p v : ℕ) → HeadLimits iodp start epo
 head-within iodp start epoch ssr p v h = (omega (arith, h .epoch), (omega arith, (h .ssr, (h .iodp, (h .start, tt)))))
 
 pub within-head : (p w e s i v : ℕ) → e ≤ 86399 → Within (partWidths p w) (headVals e s i v) → HeadLimits p w e s i v
-within-head p w e s i v l h = record { epoch = l; ssr = h .1 .1 .0; iodp = h .1 .1 .1 .0; start = h .1 .1 .1 .1 .0 }
+within-head p w e s i v l h = record { epoch = omega arith; ssr = h .1 .1 .0; iodp = h .1 .1 .1 .0; start = h .1 .1 .1 .1 .0 }

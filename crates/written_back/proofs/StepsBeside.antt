@@ -17,9 +17,9 @@ use Rattle.contents.specs.declared.parts.ClockPart.{ClockPart}
 use Rattle.contents.specs.declared.parts.OrbitPart.{OrbitPart}
 use Rattle.layout.proofs.LayoutLaws.{clock-total}
 use Rattle.canonical.proofs.KindLaws.{Headed}
 use Rattle.writing.specs.Fits.{clockRow, orbitRow}
 use Rattle.writing.specs.Write.{headPut, maskWidths, maskRow, maskPut, clocksPut, orbitsPut}
-use Rattle.writing.proofs.BesideLaws.{Beside, beside-same, beside-then, beside-wide, beside-pick, puts-beside, rows-beside}
+use Rattle.written_back.proofs.BesideLaws.{Beside, beside-same, beside-then, beside-wide, beside-pick, puts-beside, rows-beside}
 
 pub head-beside : (s : List ℕ) (kind : ℕ) (l : Layout) → Headed l → Beside 0 (l .head) s (headPut s kind l)
 unfolding headPut

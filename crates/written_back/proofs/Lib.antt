@@ -1,0 +1,15 @@
+pub mod WithinLaws
+pub mod RawBack
+pub mod BesideLaws
+pub mod RecordsBack
+pub mod PartsBack
+pub mod StepsBeside
+pub mod CheckBack
+pub mod MessageBack
+pub mod SearchLaws
+pub mod ValueLimits
+pub mod LimitLaws
+pub mod ReadSaid
+pub mod MessageRead
+pub mod UnderLaws
+pub mod RoundTrip
