@@ -367,12 +367,13 @@ INLINE unsigned judge_code(const uint8_t *frame)
 
 /* ---- frames ---- */
 
-/* Refusals 3 to 5 of a frame whose head is not the ledger's. */
+/* Refusals 3 to 5 of a frame whose head is not the ledger's. A ledger that was
+ * never opened has no sync in its head: it is for no PRN. */
 static __attribute__((cold, noinline)) unsigned head_refusal(const struct ledger *l, const uint8_t *frame)
 {
     if ((load32(frame) & 0xFFFF) != SYNC)
         return 3;
-    return frame[2] >> 2 != (l->head >> 18 & 63) ? 4 : 5;
+    return (l->head & 0xFFFF) != SYNC || frame[2] >> 2 != (l->head >> 18 & 63) ? 4 : 5;
 }
 
 /* Lists the slots of a mask's bits by their place. */

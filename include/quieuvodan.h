@@ -1,30 +1,36 @@
 /* Quieuvodan: BeiDou PPP-B2b messages read and written, frames kept in a
- * ledger, and the list of the satellites that qualify. For C and C++.
+ * ledger, and the list of the satellites that qualify; and subframes of the D1
+ * and D2 messages. For C and C++.
  *
- * Link with libclib.a (x86-64 Linux), which `rt staticlib clib` writes to
- * target/staticlib/. It uses memcpy and memset of the C library and nothing
- * else: no heap, no files, no global state. Functions on different memory may
- * run at the same time.
+ * Link with libquieuvodan.a (x86-64 Linux), which `rt staticlib quieuvodan`
+ * writes to target/staticlib/. It uses memcpy and memset of the C library and
+ * nothing else: no heap, no files, no global state. Functions on different
+ * memory may run at the same time.
  *
- *     cc -I include program.c target/staticlib/libclib.a
+ *     cc -I include program.c target/staticlib/libquieuvodan.a
  *
- * Every function is total: for any bytes it ends, and returns QVD_TAKEN or one
- * refusal number, the lowest that applies. QVD_LENGTH comes before all others:
- * a ledger, a form or a room that is not as long as this header says. A length
- * that the rules themselves speak of (a frame, a message, the room for a
- * message, the issue list) is refused with QVD_BAD_LENGTH instead. A refusal
- * leaves all that was lent as it was, save that a refused reading gives
- * contents that are all zero.
+ * Every function is total: for any bytes it ends, and answers QVD_TAKEN or one
+ * refusal number, the lowest that applies. That number is what it returns, save
+ * that qvd_take_detail and qvd_read_frame_detail put more above it for two of the
+ * refusals. A refusal leaves all that was lent as it was, every byte of it,
+ * whichever function refuses and with whatever number.
+ *
+ * QVD_LENGTH comes before all others: a ledger, a form or a room that is not as
+ * long as this header says. A length that the rules themselves speak of is
+ * refused by their number instead: a frame, a message, the room for a message
+ * and the issue list with QVD_BAD_LENGTH, both lengths of the two functions on
+ * subframes with QVD_D1_LENGTH.
  *
  * What the caller must keep, since no length can show it:
  * - each pointer is valid for the number of elements that follows it, also
  *   where that number is wrong for the function, and is not NULL, even for 0;
  * - memory that a function changes overlaps nothing else that it is lent;
- * - uint16_t memory is aligned as C asks, and the machine's own byte order;
+ * - uint16_t and uint32_t memory is aligned as C asks, and its numbers are in
+ *   the machine's own byte order;
  * - nothing else changes the memory during the call.
  *
  * The proofs say, for every input, exactly what is returned and what each lent
- * room then holds: crates/clib/specs/Boundary.antt. */
+ * room then holds: crates/quieuvodan/specs/Boundary.antt. */
 #ifndef QUIEUVODAN_H
 #define QUIEUVODAN_H
 
@@ -44,16 +50,18 @@ enum {
     QVD_ROW_BYTES = 27,
     QVD_MOST_ROWS = 174,
     QVD_ROWS_BYTES = 4698, /* QVD_MOST_ROWS rows */
-    QVD_CONTENTS_BYTES = 488
+    QVD_CONTENTS_BYTES = 488,
+    QVD_D1_BYTES = 38,     /* a subframe */
+    QVD_D1_DATA_BYTES = 28 /* its information bits */
 };
 
-/* What the functions return. */
+/* What the functions answer. */
 enum {
     QVD_TAKEN = 0,
     QVD_BAD_LENGTH = 1,     /* frame not 125 bytes, message or its room not 61, issue list not 255 */
     QVD_LAST_BITS = 2,      /* a message's last two bits are not zero */
     QVD_SYNC = 3,           /* sync is not 0xEB90 */
-    QVD_PRN = 4,            /* frame of another PRN; a ledger for a PRN that is not 1 to 5 or 59 to 63 */
+    QVD_PRN = 4,            /* frame of another PRN than the ledger's; a ledger whose PRN is not 1 to 5 or 59 to 63 */
     QVD_WITHDRAWN = 5,      /* first flag bit is 1 */
     QVD_PARITY = 6,         /* some parity group is not zero */
     QVD_CHECK = 7,          /* check bits wrong */
@@ -69,7 +77,11 @@ enum {
     QVD_ISSUE = 17,         /* an issue is neither 0 to 1023 nor 65535 */
     QVD_NO_ROW = 18,        /* the slot does not qualify */
     QVD_LAST_PLACE = 19,    /* type 6: no satellite has the last place from Slot_S on */
-    QVD_LENGTH = 39         /* a ledger, contents, rows or verdicts of another length than here */
+    QVD_D1_LENGTH = 31,     /* subframe not 38 bytes, its information not 28, a subframe's last four bits not zero */
+    QVD_D1_PREAMBLE = 32,   /* preamble is not 11100010010 */
+    QVD_D1_FRAID = 33,      /* FraID is not 1 to 5 */
+    QVD_D1_SOW = 34,        /* SOW is above 604799 */
+    QVD_LENGTH = 39         /* a ledger, contents, rows, verdicts or details of another length than here */
 };
 
 enum { QVD_NO_ISSUE = 65535 };
@@ -110,9 +122,16 @@ enum { QVD_URA_UNKNOWN = 0, QVD_URA_QUARTERS = 1, QVD_URA_ABOVE = 2 };
  *                 is unknown, and quarters are looked at in kind 1 alone
  *
  * A ledger is 9440 bytes that only these functions need to understand. Any bytes
- * are some ledger; qvd_open makes a fresh one. It may be copied and stored.
+ * are some ledger; qvd_open makes a fresh one. Zero bytes, never opened, are a
+ * ledger for no PRN: they refuse every frame. A ledger may be copied and stored.
  *
- * An issue list has entry k - 1 for slot k: 0 to 1023, or QVD_NO_ISSUE. */
+ * An issue list has entry k - 1 for slot k: 0 to 1023, or QVD_NO_ISSUE.
+ *
+ * A subframe of a D1 or D2 message, 38 bytes: its ten words of 30 bits as they
+ * are sent, high bit first, then four zero bits. Its information, 28 bytes: the
+ * 26 information bits of the first word and the 22 of each other, 224 in all,
+ * high bit first. Preamble, FraID and SOW are bits 1 to 11, 16 to 18 and 19 to 38
+ * of these. */
 
 /* Makes the n bytes a fresh ledger for a PRN, whatever they held. 4, 39. */
 uint8_t qvd_open(uint8_t *ledger, size_t n, uint8_t prn);
@@ -136,10 +155,14 @@ uint32_t qvd_take_detail(uint8_t *ledger, size_t n, const uint8_t *frame, size_t
 uint8_t qvd_replay(uint8_t *ledger, size_t n, uint8_t prn, const uint8_t *log, size_t m,
                    uint8_t *verdicts, size_t k);
 
+/* As qvd_replay, with what qvd_take_detail would return for each frame. 4, 39. */
+uint8_t qvd_replay_detail(uint8_t *ledger, size_t n, uint8_t prn, const uint8_t *log, size_t m,
+                          uint32_t *details, size_t k);
+
 /* Gives the rows of all slots that qualify, one after the other in rising slot
- * order, then zeros; r is QVD_ROWS_BYTES. A row's first byte, its slot, is never
- * 0. A ledger that qvd_open and qvd_take made has at most 174 rows; of other
- * bytes' rows those past the end are left out. 1, 17, 39. */
+ * order, then zeros; r is QVD_ROWS_BYTES. A row's first byte, its slot, is 1 to
+ * 174: a slot above never qualifies, so that all rows stand in it whatever bytes
+ * the ledger has. 1, 17, 39. */
 uint8_t qvd_rows(const uint8_t *ledger, size_t n, const uint16_t *issues, size_t k,
                  uint8_t *rows, size_t r);
 
@@ -154,9 +177,23 @@ uint8_t qvd_read(const uint8_t *message, size_t m, uint8_t *contents, size_t k);
  * QVD_CONTENTS_BYTES. 1, 3, 5 to 13, 39. */
 uint8_t qvd_read_frame(const uint8_t *frame, size_t m, uint8_t *contents, size_t k);
 
+/* As qvd_read_frame, and says more about refusal 6, as qvd_take_detail does: then
+ * it returns 6 + 256 * first + 65536 * failing. 1, 3, 5 to 13, 39. */
+uint32_t qvd_read_frame_detail(const uint8_t *frame, size_t m, uint8_t *contents, size_t k);
+
 /* Writes the message of contents into a room of m bytes, QVD_MESSAGE_BYTES; k is
  * QVD_CONTENTS_BYTES. 1, 8 to 13, 16, 39. */
 uint8_t qvd_write(const uint8_t *contents, size_t k, uint8_t *room, size_t m);
+
+/* Reads the information of a subframe of m bytes, QVD_D1_BYTES, into a room of k
+ * bytes, QVD_D1_DATA_BYTES. A code word with at most one flipped bit gives back
+ * the eleven bits that were sent; with more flips it may give others. Preamble,
+ * FraID and SOW are looked at after that. 31 to 34. */
+uint8_t qvd_d1_read(const uint8_t *subframe, size_t m, uint8_t *data, size_t k);
+
+/* Writes the subframe of information of k bytes, QVD_D1_DATA_BYTES, into a room
+ * of m bytes, QVD_D1_BYTES. 31 to 34. */
+uint8_t qvd_d1_write(const uint8_t *data, size_t k, uint8_t *subframe, size_t m);
 
 #ifdef __cplusplus
 }

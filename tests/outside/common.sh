@@ -4,10 +4,11 @@
 
 root=$(cd "$(dirname "${BASH_SOURCE[0]}")/../.." && pwd)
 outside=$root/tests/outside
-flags="-std=gnu11 -O2 -Wall -Wextra -Wpedantic -Wconversion -Wshadow -Wstrict-prototypes -Wmissing-prototypes"
+flags=(-std=gnu11 -O2 -Wall -Wextra -Wpedantic -Wconversion -Wshadow -Wstrict-prototypes -Wmissing-prototypes
+    -I "$root/include")
 
-# The calls of the library's C boundary.
-boundary="qvd_open qvd_take qvd_take_detail qvd_replay qvd_rows qvd_row qvd_read qvd_read_frame qvd_write"
+# The calls of the library's C boundary, as include/quieuvodan.h declares them.
+boundary=$(sed -n 's/^uint[0-9]*_t \(qvd_[a-z0-9_]*\)(.*/\1/p' "$root/include/quieuvodan.h")
 
 # install_missing COMMAND PACKAGE..: installs Debian packages if the command is missing.
 install_missing() {
@@ -33,33 +34,34 @@ link="-static"
 
 # build_standin FOLDER OUT [SOURCES]: the stand-in as one object that shows
 # nothing but the boundary, so that it can be linked beside the independent
-# implementation. SOURCES is where ref.c, forms.c and standin.c are taken from.
+# implementation. SOURCES is where ref.c, words.c, forms.c and standin.c are taken from.
 build_standin() {
-    local folder=$1 out=$2 sources=${3:-$outside} name keep=
-    for name in ref forms standin; do
-        $cc $flags -c -o "$folder/standin-$name.o" "$sources/$name.c" || return
+    local folder=$1 out=$2 sources=${3:-$outside} name
+    local objects=() keep=()
+    for name in ref words forms standin; do
+        $cc "${flags[@]}" -c -o "$folder/standin-$name.o" "$sources/$name.c" || return
+        objects+=("$folder/standin-$name.o")
     done
-    for name in $boundary; do keep="$keep -G $name"; done
-    $cc -nostdlib -r -o "$out" "$folder/standin-ref.o" "$folder/standin-forms.o" "$folder/standin-standin.o" &&
-        $objcopy $keep "$out"
+    for name in $boundary; do keep+=(-G "$name"); done
+    $cc -nostdlib -r -o "$out" "${objects[@]}" && $objcopy "${keep[@]}" "$out"
 }
 
 # link_with FOLDER: what the programs are linked with goes to $archive.
 # The library if there is one, else the stand-in; QVD_STANDIN=1 asks for the
 # stand-in, QVD_ARCHIVE=FILE for an archive that is already built.
 link_with() {
-    local folder=$1 built=$root/target/staticlib/libclib.a
+    local folder=$1 built=$root/target/staticlib/libquieuvodan.a
     standin=no
     if [ "${QVD_STANDIN:-0}" != 1 ] && [ -n "${QVD_ARCHIVE:-}" ]; then
         archive=$QVD_ARCHIVE
-    elif [ "${QVD_STANDIN:-0}" != 1 ] && [ -d "$root/crates/clib" ]; then
+    elif [ "${QVD_STANDIN:-0}" != 1 ] && [ -d "$root/crates/quieuvodan" ]; then
         if [ ! -f "$built" ] || [ -n "$(find "$root/crates" -path '*/src/*' -newer "$built" -print -quit)" ]; then
             echo "building the library" >&2
-            (cd "$root" && rt staticlib clib) >"$folder/staticlib.log" 2>&1 ||
+            (cd "$root" && rt staticlib quieuvodan) >"$folder/staticlib.log" 2>&1 ||
                 { tail -n 20 "$folder/staticlib.log" >&2; echo "the library was not built" >&2; exit 2; }
         fi
-        cp "$built" "$folder/libclib.a"
-        archive=$folder/libclib.a
+        cp "$built" "$folder/libquieuvodan.a"
+        archive=$folder/libquieuvodan.a
     else
         standin=yes
         build_standin "$folder" "$folder/standin.o" || exit 2

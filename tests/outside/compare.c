@@ -1,15 +1,17 @@
-/* Makes many messages, frames, logs and contents from a fixed seed, good and
- * damaged, hands them to the library and to the independent implementation,
- * and compares verdicts and what they give beside their number, contents,
- * written bytes, rows, and that what was lent stays as it was on a refusal.
+/* Makes many messages, frames, logs, contents and subframes from a fixed seed,
+ * good and damaged, hands them to the library and to the independent
+ * implementation, and compares verdicts and what they give beside their number,
+ * contents, written bytes, rows, and that what was lent stays as it was on a
+ * refusal.
  *
  *   compare [SEED [PERCENT]]    PERCENT of the standard run's size, 100 if not given
  *
  * Ends with a table of how often each refusal number was compared, and with
  * status 1 at any difference, or if a number came too seldom. */
 #include "forms.h"
-#include "library.h"
+#include "quieuvodan.h"
 #include "ref.h"
+#include "words.h"
 
 #include <signal.h>
 #include <stdio.h>
@@ -82,15 +84,20 @@ static uint8_t *input_end, *output_end, *ledger_end, *log_end, *verdicts_end, *i
 
 /* ---- what is being compared, and the first difference in full ---- */
 
-enum call { OPEN, TAKE, TAKE_DETAIL, REPLAY, READ, READ_FRAME, WRITE, ROWS, ROW, CALLS };
+enum call {
+    OPEN, TAKE, TAKE_DETAIL, REPLAY, REPLAY_DETAIL, READ, READ_FRAME, READ_FRAME_DETAIL, WRITE, ROWS, ROW, D1_READ,
+    D1_WRITE, CALLS
+};
 static const char *const call_name[CALLS] = {
-    "open", "take", "take_detail", "replay", "read", "read_frame", "write", "rows", "row"
+    "open", "take", "take_detail", "replay", "replay_detail", "read", "read_frame", "read_frame_detail", "write", "rows",
+    "row", "d1_read", "d1_write"
 };
 
 enum { MOST_VERDICT = 40, WANTED = 500 };
 static unsigned long tally[CALLS][MOST_VERDICT];
 static unsigned long comparisons, differences;
 static unsigned long lists_with_rows, rows_seen, masks_changed, frames_noise;
+static unsigned long rows_of_any_bytes, subframes_corrected;
 
 /* What came beside the numbers 6 and 19. */
 static bool first_seen[GROUPS + 1], failing_seen[GROUPS + 1], places_seen[SLOTS + 1];
@@ -133,7 +140,7 @@ static void print_case(const char *what)
     printf("compare: first difference: %s %lu, qvd_%s: %s\n", now.part, now.number, call_name[now.call], what);
     if (now.call == ROW)
         printf("  slot %u\n", now.slot);
-    if (now.call == OPEN || now.call == TAKE || now.call == TAKE_DETAIL || now.call == REPLAY || now.log != NULL)
+    if (now.call <= REPLAY_DETAIL || now.log != NULL)
         printf("  prn %u\n", now.prn);
     if (now.input != NULL)
         print_bytes("input", now.input, now.input_bytes);
@@ -182,6 +189,13 @@ static void same_verdict(enum call call, unsigned library, unsigned reference)
     same_number("verdict", library, reference);
     if (reference < MOST_VERDICT)
         tally[call][reference]++;
+}
+
+static void same_detail(enum call call, uint32_t library, unsigned reference, const struct detail *detail)
+{
+    same_number("verdict and what it gives beside its number", library, detail_to_number(reference, detail));
+    tally[call][reference]++;
+    first_seen[detail->first] = failing_seen[detail->failing] = places_seen[detail->places] = true;
 }
 
 /* A call that went past its buffer ends the run, but not without its case. */
@@ -589,25 +603,33 @@ static size_t damage(uint8_t *frame, size_t most)
 
 /* ---- messages and frames without a ledger ---- */
 
-static void compare_reading(bool frame, const uint8_t *bytes, size_t n)
+/* By qvd_read, qvd_read_frame or qvd_read_frame_detail. */
+static void compare_reading(enum call call, const uint8_t *bytes, size_t n)
 {
     uint8_t *input = input_end - n, *output;
     struct contents c;
+    struct detail detail = { 0 };
     size_t room = chance(1) ? (chance(50) ? QVD_CONTENTS_BYTES - 1 : QVD_CONTENTS_BYTES + below(8)) : QVD_CONTENTS_BYTES;
-    unsigned library, reference = 39;
+    uint32_t library;
+    unsigned reference = 39;
 
     memcpy(input, bytes, n);
     output = lend(room);
-    now.call = frame ? READ_FRAME : READ;
+    now.call = call;
     now.input = input;
     now.input_bytes = n;
     now.issues = NULL;
-    library = frame ? qvd_read_frame(input, n, output, room) : qvd_read(input, n, output, room);
-    if (room == QVD_CONTENTS_BYTES) {
-        reference = frame ? ref_read_frame(bytes, n, &c) : ref_read(bytes, n, &c);
+    library = call == READ       ? qvd_read(input, n, output, room)
+            : call == READ_FRAME ? qvd_read_frame(input, n, output, room)
+                                 : qvd_read_frame_detail(input, n, output, room);
+    if (room == QVD_CONTENTS_BYTES)
+        reference = call == READ ? ref_read(bytes, n, &c) : ref_read_frame_detail(bytes, n, &c, &detail);
+    if (reference == 0)
         contents_to_bytes(&c, lent.should + MARGIN);
-    }
-    same_verdict(now.call, library, reference);
+    if (call == READ_FRAME_DETAIL)
+        same_detail(call, library, reference, &detail);
+    else
+        same_verdict(call, library, reference);
     lent_is_right("contents");
     same_bytes("the input afterwards", input, bytes, n);
 }
@@ -632,7 +654,7 @@ static void compare_messages(unsigned long count)
             flip_bits(bytes, 0, 8 * MESSAGE_BYTES - 1, 1);
         if (chance(3))
             n = chance(50) ? (chance(50) ? 60 : 62) : below(sizeof bytes);
-        compare_reading(false, bytes, n);
+        compare_reading(READ, bytes, n);
     }
 }
 
@@ -653,7 +675,8 @@ static void compare_frames(unsigned long count)
         ref_encode(draft.bytes, prn, chance(70) ? 0 : below(32), bytes);
         if (chance(25))
             n = damage(bytes, sizeof bytes);
-        compare_reading(true, bytes, n);
+        compare_reading(READ_FRAME, bytes, n);
+        compare_reading(READ_FRAME_DETAIL, bytes, n);
     }
 }
 
@@ -931,7 +954,7 @@ static void compare_writes(unsigned long count)
             uint8_t written[MESSAGE_BYTES];
             memcpy(written, lent.should + MARGIN, MESSAGE_BYTES);
             written[MESSAGE_BYTES - 1] &= 0xFC;
-            compare_reading(false, written, MESSAGE_BYTES);
+            compare_reading(READ, written, MESSAGE_BYTES);
         }
     }
 }
@@ -1016,13 +1039,10 @@ static void compare_take(const uint8_t *frame, size_t m, bool detailed)
     library = detailed ? qvd_take_detail(ledger, n, input, m) : qvd_take(ledger, n, input, m);
     if (n == QVD_LEDGER_BYTES)
         reference = ref_take_detail(&reference_ledger, frame, m, &detail);
-    if (detailed) {
-        same_number("verdict and what it gives beside its number", library, detail_to_number(reference, &detail));
-        tally[TAKE_DETAIL][reference]++;
-        first_seen[detail.first] = failing_seen[detail.failing] = places_seen[detail.places] = true;
-    } else {
+    if (detailed)
+        same_detail(TAKE_DETAIL, library, reference, &detail);
+    else
         same_verdict(TAKE, library, reference);
-    }
     if (reference != 0)
         ledger_is_unchanged();
     else
@@ -1117,10 +1137,12 @@ static const uint8_t ten[] = { 1, 2, 3, 4, 5, 59, 60, 61, 62, 63 };
 /* The frames handed in for this log, for the report of a difference. */
 static uint8_t handed[(2 + 256) * 512];
 
-static void compare_replay(unsigned prn, const uint8_t *log, size_t m, const struct leaning *l)
+/* By qvd_replay, a byte a frame, or with `detailed` by qvd_replay_detail, a
+ * number of four bytes. */
+static void compare_replay(unsigned prn, const uint8_t *log, size_t m, const struct leaning *l, bool detailed)
 {
-    static uint8_t verdicts_should[MARGIN + LOG_FRAMES + 64];
-    size_t frames = (m + FRAME_BYTES - 1) / FRAME_BYTES, k = frames, n;
+    static uint8_t verdicts_should[MARGIN + 4 * (LOG_FRAMES + 64)];
+    size_t frames = (m + FRAME_BYTES - 1) / FRAME_BYTES, k = frames, n, size = detailed ? 4 : 1;
     uint8_t *input = log_end - m, *verdicts;
     unsigned library, reference = 39;
 
@@ -1132,29 +1154,39 @@ static void compare_replay(unsigned prn, const uint8_t *log, size_t m, const str
     place_ledger();
     remember_ledger();
     n = some_ledger_length();
-    verdicts = verdicts_end - k;
-    any_bytes(verdicts_should, MARGIN + k);
-    memcpy(verdicts - MARGIN, verdicts_should, MARGIN + k);
-    now.call = REPLAY;
+    verdicts = verdicts_end - size * k;
+    any_bytes(verdicts_should, MARGIN + size * k);
+    memcpy(verdicts - MARGIN, verdicts_should, MARGIN + size * k);
+    now.call = detailed ? REPLAY_DETAIL : REPLAY;
     now.input = input;
     now.input_bytes = m;
     now.issues = NULL;
     now.prn = prn;
     now.log = NULL;
-    library = qvd_replay(ledger, n, (uint8_t)prn, input, m, verdicts, k);
+    if (detailed)
+        library = qvd_replay_detail(ledger, n, (uint8_t)prn, input, m, (uint32_t *)(void *)verdicts, k);
+    else
+        library = qvd_replay(ledger, n, (uint8_t)prn, input, m, verdicts, k);
     if (n == QVD_LEDGER_BYTES && k == frames)
         reference = ref_open(&reference_ledger, prn);
     same_number("verdict on the log", library, reference);
     if (reference == 0)
         for (size_t i = 0; i < frames; i++) {
             size_t at = i * FRAME_BYTES, left = m - at;
-            unsigned verdict = ref_take(&reference_ledger, input + at, left < FRAME_BYTES ? left : FRAME_BYTES);
-            verdicts_should[MARGIN + i] = (uint8_t)verdict;
-            tally[REPLAY][verdict]++;
+            struct detail detail;
+            unsigned verdict =
+                ref_take_detail(&reference_ledger, input + at, left < FRAME_BYTES ? left : FRAME_BYTES, &detail);
+            uint32_t number = detail_to_number(verdict, &detail);
+            if (detailed)
+                memcpy(verdicts_should + MARGIN + 4 * i, &number, 4);
+            else
+                verdicts_should[MARGIN + i] = (uint8_t)verdict;
+            tally[now.call][verdict]++;
         }
     else
-        tally[REPLAY][reference]++;
-    same_bytes("verdicts", verdicts - MARGIN, verdicts_should, MARGIN + k);
+        tally[now.call][reference]++;
+    same_bytes(detailed ? "details" : "verdicts", verdicts - MARGIN, verdicts_should, MARGIN + size * k);
+    same_bytes("the log afterwards", input, log, m);
     if (reference != 0) {
         ledger_is_unchanged();
         return;
@@ -1212,12 +1244,12 @@ static void compare_log(unsigned long number, unsigned length)
         }
     }
     compare_list(&l);
-    if (chance(70)) {
+    if (chance(90)) {
         size_t rest = chance(40) ? 0 : below(FRAME_BYTES);
         any_bytes(log + log_bytes, rest);
         if (chance(20) && log_bytes > 0)
             log_bytes -= 1 + below(FRAME_BYTES - 1), rest = 0;
-        compare_replay(prn, log, log_bytes + rest, &l);
+        compare_replay(prn, log, log_bytes + rest, &l, chance(50));
     }
 }
 
@@ -1233,7 +1265,7 @@ static void compare_odd_logs(void)
         now.number = i;
         some_leaning(&l);
         any_bytes(log, m);
-        compare_replay(ten[i % 10], log, m, &l);
+        compare_replay(ten[i % 10], log, m, &l, i / 3 % 2 == 1);
     }
     for (unsigned i = 0; i < 10; i++) {
         size_t frames = 300;
@@ -1243,7 +1275,7 @@ static void compare_odd_logs(void)
         for (size_t f = 0; f < frames; f++)
             if (i % 2 == 1)
                 ref_put_bits(log + f * FRAME_BYTES, 0, 23, 0xEB90u << 7 | (unsigned)ten[i] << 1);
-        compare_replay(ten[i], log, frames * FRAME_BYTES, &l);
+        compare_replay(ten[i], log, frames * FRAME_BYTES, &l, i / 2 % 2 == 1);
     }
     now.number = 70;
     some_leaning(&l);
@@ -1251,7 +1283,8 @@ static void compare_odd_logs(void)
     ref_encode(draft.bytes, 60, 0, log);
     for (size_t f = 1; f < LOG_FRAMES; f++)
         memcpy(log + f * FRAME_BYTES, log, FRAME_BYTES);
-    compare_replay(60, log, LOG_FRAMES * FRAME_BYTES - 1, &l);
+    compare_replay(60, log, LOG_FRAMES * FRAME_BYTES - 1, &l, false);
+    compare_replay(60, log, LOG_FRAMES * FRAME_BYTES - 1, &l, true);
 }
 
 /* Openings with every number as PRN, each on bytes that are anything. */
@@ -1269,19 +1302,290 @@ static void compare_opens(unsigned rounds)
     }
 }
 
+/* ---- bytes that no opening made ---- */
+
+static bool among_ten(unsigned prn)
+{
+    for (size_t i = 0; i < sizeof ten; i++)
+        if (ten[i] == prn)
+            return true;
+    return false;
+}
+
+/* A frame for a ledger that is for none of the ten: refused 1, 3 or 4, whatever
+ * else is wrong with it. */
+static void compare_foreign(const uint8_t *frame, size_t m, bool detailed)
+{
+    uint8_t *input = input_end - m;
+    size_t n = some_ledger_length();
+    uint32_t library;
+
+    memcpy(input, frame, m);
+    now.call = detailed ? TAKE_DETAIL : TAKE;
+    now.input = input;
+    now.input_bytes = m;
+    remember_ledger();
+    library = detailed ? qvd_take_detail(ledger, n, input, m) : qvd_take(ledger, n, input, m);
+    same_verdict(now.call, library,
+                 n != QVD_LEDGER_BYTES                  ? 39
+                 : m != FRAME_BYTES                     ? 1
+                 : frame[0] != 0xEB || frame[1] != 0x90 ? 3
+                                                        : 4);
+    ledger_is_unchanged();
+    same_bytes("the input afterwards", input, frame, m);
+}
+
+/* Ledgers whose first byte, the PRN, is none of the ten, the others zero or
+ * anything. Most frames that they are handed name the same PRN, or 0. */
+static void compare_unopened(unsigned count)
+{
+    static const uint8_t odd[] = { 0, 0, 0, 6, 58, 64 };
+    struct leaning l;
+    uint8_t bytes[256];
+
+    begin("ledger for no PRN");
+    now.issues = NULL;
+    for (unsigned i = 0; i < count; i++) {
+        bool zeros = chance(50);
+        unsigned prn = i % 256;
+        if (chance(50) || among_ten(prn))
+            prn = PICK(odd);
+        now.number = i;
+        now.prn = prn;
+        some_leaning(&l);
+        place_ledger();
+        if (zeros)
+            memset(ledger, 0, QVD_LEDGER_BYTES);
+        ledger[0] = (uint8_t)prn;
+        for (unsigned frame = 0; frame < 6; frame++) {
+            unsigned named = chance(60) ? prn % 64 : chance(50) ? 0 : below(64);
+            size_t n = FRAME_BYTES;
+            make_message(&l, frame == 0 ? 1 : 0, 10);
+            any_bytes(bytes, sizeof bytes);
+            ref_encode(draft.bytes, named, chance(80) ? 0 : below(64), bytes);
+            if (chance(25))
+                n = damage(bytes, sizeof bytes);
+            compare_foreign(bytes, n, chance(50));
+        }
+        if (zeros) {
+            memset(&reference_ledger, 0, sizeof reference_ledger);
+            compare_list(&l);
+            now.issues = NULL;
+        }
+    }
+}
+
+/* The rows of ledgers whose bytes are all 1, or 1 and now and then 0. What they
+ * hold is the library's affair, but its rows must have slots that rise and are
+ * none above 174, zeros after them, and be the rows that each slot has. */
+static void compare_any_bytes(unsigned count)
+{
+    static uint8_t rows[QVD_ROWS_BYTES], zero[QVD_ROWS_BYTES];
+    static const uint16_t values[] = { 0, 1, 256, 257 };
+    uint16_t *issues = (uint16_t *)(void *)(issues_end - 2 * SLOTS);
+
+    begin("any bytes");
+    now.issues = issues;
+    now.issue_count = SLOTS;
+    for (unsigned i = 0; i < count; i++) {
+        unsigned zeros = chance(40) ? 0 : below(6), others = chance(40) ? 0 : below(30); /* percent */
+        size_t at = 0, next = 0;
+        unsigned last = 0;
+
+        now.number = i;
+        place_ledger();
+        for (size_t k = 0; k < QVD_LEDGER_BYTES; k++)
+            ledger[k] = !chance(zeros);
+        for (size_t k = 0; k < SLOTS; k++)
+            issues[k] = chance(others) ? PICK(values) : 257;
+        now.input = ledger;
+        now.input_bytes = QVD_LEDGER_BYTES;
+        remember_ledger();
+
+        now.call = ROWS;
+        same_verdict(ROWS, qvd_rows(ledger, QVD_LEDGER_BYTES, issues, SLOTS, rows, sizeof rows), 0);
+        for (; at < sizeof rows && rows[at] != 0; at += QVD_ROW_BYTES) {
+            same_number("the slots rise, and none is above 174", rows[at] > last && rows[at] <= ASSIGNED_SLOTS, true);
+            last = rows[at];
+            rows_of_any_bytes++;
+        }
+        same_bytes("zeros after the rows", rows + at, zero, sizeof rows - at);
+
+        now.call = ROW;
+        for (now.slot = 0; now.slot < 260; now.slot++) {
+            uint8_t *output = lend(QVD_ROW_BYTES);
+            unsigned wanted = now.slot == 0 || now.slot > SLOTS ? 11 : 18;
+            if (wanted == 18 && next < at && rows[next] == now.slot) {
+                memcpy(lent.should + MARGIN, rows + next, QVD_ROW_BYTES);
+                next += QVD_ROW_BYTES;
+                wanted = 0;
+            }
+            same_verdict(ROW, qvd_row(ledger, QVD_LEDGER_BYTES, issues, SLOTS, (uint16_t)now.slot, output, QVD_ROW_BYTES),
+                         wanted);
+            lent_is_right("row");
+        }
+        ledger_is_unchanged();
+    }
+}
+
+/* ---- subframes of D1 and D2 ---- */
+
+enum { PREAMBLE = 0x712, LAST_SECOND = 604799, CODE_WORDS = 19, SUBFRAME_BITS = 300 };
+
+/* The information of a subframe; what it is refused with is answered, 0 if it is
+ * good, and it is good unless `faulty`. */
+static unsigned some_data(uint8_t data[SUBFRAME_DATA_BYTES], bool faulty)
+{
+    static const uint8_t wrong[] = { 0, 6, 7 };
+    unsigned refusal = 0;
+
+    any_bytes(data, SUBFRAME_DATA_BYTES);
+    ref_put_bits(data, 0, 11, PREAMBLE);
+    ref_put_bits(data, 15, 3, between(1, 5));
+    ref_put_bits(data, 18, 20, chance(10) ? LAST_SECOND : chance(5) ? 0 : below(LAST_SECOND + 1));
+    if (faulty && chance(40)) {
+        ref_put_bits(data, 18, 20, chance(40) ? LAST_SECOND + 1 : between(LAST_SECOND + 1, (1 << 20) - 1));
+        refusal = 34;
+    }
+    if (faulty && chance(40)) {
+        ref_put_bits(data, 15, 3, PICK(wrong));
+        refusal = 33;
+    }
+    if (faulty && chance(40)) {
+        unsigned other = chance(50) ? PREAMBLE ^ 1u << below(11) : chance(30) ? PREAMBLE ^ 2047 : below(2048);
+        ref_put_bits(data, 0, 11, other);
+        refusal = other != PREAMBLE ? 32 : refusal;
+    }
+    return refusal;
+}
+
+/* Where bit k of a code word lies in a subframe: the first is the end of the
+ * first word; then two to a word, bit by bit in turn. */
+static unsigned code_bit(unsigned word, unsigned k)
+{
+    return word == 0 ? 15 + k : 30 * ((word + 1) / 2) + 2 * k + (word + 1) % 2;
+}
+
+/* Whether the library's room then holds `data` is compared too, where it is
+ * given and the subframe is taken. The library's verdict is answered. */
+static unsigned compare_d1_reading(const uint8_t *bytes, size_t n, size_t room, const uint8_t *data)
+{
+    uint8_t *input = input_end - n, *output = lend(room);
+    unsigned library, reference;
+
+    memcpy(input, bytes, n);
+    now.call = D1_READ;
+    now.input = input;
+    now.input_bytes = n;
+    library = qvd_d1_read(input, n, output, room);
+    reference = ref_read_subframe(lent.should + MARGIN, room, bytes, n);
+    same_verdict(D1_READ, library, reference);
+    lent_is_right("information");
+    same_bytes("the input afterwards", input, bytes, n);
+    if (data != NULL && reference == 0)
+        same_bytes("what was sent", output, data, SUBFRAME_DATA_BYTES);
+    return library;
+}
+
+static void compare_d1_writing(const uint8_t *bytes, size_t n, size_t room)
+{
+    uint8_t *input = input_end - n, *output = lend(room);
+    unsigned library, reference;
+
+    memcpy(input, bytes, n);
+    now.call = D1_WRITE;
+    now.input = input;
+    now.input_bytes = n;
+    library = qvd_d1_write(input, n, output, room);
+    reference = ref_write_subframe(lent.should + MARGIN, room, bytes, n);
+    same_verdict(D1_WRITE, library, reference);
+    lent_is_right("subframe");
+    same_bytes("the input afterwards", input, bytes, n);
+    /* What was written is read again. */
+    if (reference == 0) {
+        uint8_t written[SUBFRAME_BYTES];
+        memcpy(written, output, sizeof written);
+        compare_d1_reading(written, sizeof written, SUBFRAME_DATA_BYTES, bytes);
+    }
+}
+
+/* The right length mostly, else one near it, the other of the two, or any. */
+static size_t some_d1_length(size_t right, size_t other)
+{
+    if (chance(97))
+        return right;
+    return chance(50) ? right - 1 + 2 * below(2) : chance(30) ? other : below(64);
+}
+
+static void compare_subframes(unsigned long count)
+{
+    uint8_t bytes[64], data[64];
+
+    begin("subframe");
+    now.issues = NULL;
+    for (unsigned long i = 0; i < count; i++) {
+        unsigned way = below(10);
+        bool sent = way < 6; /* code words have at most one flip each */
+        unsigned refusal, library;
+        size_t n, room;
+
+        now.number = i;
+        any_bytes(bytes, sizeof bytes);
+        any_bytes(data, sizeof data);
+        refusal = some_data(data, chance(30));
+        ref_code_subframe(bytes, data);
+        if (way >= 2 && way < 6) {
+            unsigned percent = chance(30) ? 100 : below(100);
+            for (unsigned word = 0; word < CODE_WORDS; word++)
+                if (chance(percent)) {
+                    unsigned bit = code_bit(word, below(15));
+                    flip_bits(bytes, bit, bit, 1);
+                }
+            subframes_corrected++;
+        } else if (way == 6) {
+            flip_bits(bytes, 0, SUBFRAME_BITS - 1, 1 + below(chance(50) ? 4 : 40));
+        } else if (way == 7 || way == 8) {
+            any_bytes(bytes + 4, SUBFRAME_BYTES - 4);
+            bytes[SUBFRAME_BYTES - 1] &= 0xF0;
+        } else if (way == 9) {
+            any_bytes(bytes, SUBFRAME_BYTES);
+            if (chance(80))
+                bytes[SUBFRAME_BYTES - 1] &= 0xF0;
+        }
+        if (chance(4)) {
+            bytes[SUBFRAME_BYTES - 1] |= (uint8_t)between(1, 15);
+            sent = false;
+        }
+        n = some_d1_length(SUBFRAME_BYTES, SUBFRAME_DATA_BYTES);
+        room = some_d1_length(SUBFRAME_DATA_BYTES, SUBFRAME_BYTES);
+        sent = sent && n == SUBFRAME_BYTES && room == SUBFRAME_DATA_BYTES;
+        library = compare_d1_reading(bytes, n, room, sent ? data : NULL);
+        if (sent)
+            same_number("verdict on what was sent", library, refusal);
+        n = some_d1_length(SUBFRAME_DATA_BYTES, SUBFRAME_BYTES);
+        room = some_d1_length(SUBFRAME_BYTES, SUBFRAME_DATA_BYTES);
+        compare_d1_writing(data, n, room);
+    }
+}
+
 /* ---- the run ---- */
 
 /* The refusals that each call can give; each must have come WANTED times. (A
- * replay's frames have all been taken one by one before.) */
+ * replay's frames have all been taken one by one before; of a detailed one those
+ * are asked for that give more than their number.) */
 static const uint8_t gives[CALLS][16] = {
     [OPEN] = { 4 },
     [TAKE] = { 1, 3, 4, 5, 6, 7, 8, 9, 10, 11, 12, 13, 14, 15, 19 },
     [TAKE_DETAIL] = { 1, 3, 4, 5, 6, 7, 8, 9, 10, 11, 12, 13, 14, 15, 19 },
+    [REPLAY_DETAIL] = { 6, 19 },
     [READ] = { 1, 2, 7, 8, 9, 10, 11, 12, 13 },
     [READ_FRAME] = { 1, 3, 5, 6, 7, 8, 9, 10, 11, 12, 13 },
+    [READ_FRAME_DETAIL] = { 1, 3, 5, 6, 7, 8, 9, 10, 11, 12, 13 },
     [WRITE] = { 1, 8, 9, 10, 11, 12, 13, 16 },
     [ROWS] = { 1, 17 },
     [ROW] = { 1, 11, 17, 18 },
+    [D1_READ] = { 31, 32, 33, 34 },
+    [D1_WRITE] = { 31, 32, 33, 34 },
 };
 
 static unsigned long calls_of(enum call call)
@@ -1301,12 +1605,28 @@ static unsigned count_seen(const bool *seen, int most)
     return count;
 }
 
+/* A line of the table's head: of each call's name the word `which`, from 0. */
+static void print_head(int which)
+{
+    printf("%-7s", which == 0 ? "refusal" : "");
+    for (int c = 0; c < CALLS; c++) {
+        const char *word = call_name[c];
+        for (int i = 0; i < which && word != NULL; i++) {
+            word = strchr(word, '_');
+            word = word == NULL ? NULL : word + 1;
+        }
+        if (word != NULL)
+            printf(" %7.*s", (int)strcspn(word, "_"), word);
+        else
+            printf(" %7s", "");
+    }
+    printf("%s\n", which == 0 ? "      all" : "");
+}
+
 static void print_table(void)
 {
-    printf("%-8s", "refusal");
-    for (int c = 0; c < CALLS; c++)
-        printf(" %11s", call_name[c]);
-    printf(" %11s\n", "all");
+    for (int which = 0; which < 3; which++)
+        print_head(which);
     for (int v = 0; v < MOST_VERDICT; v++) {
         unsigned long all = 0;
         for (int c = 0; c < CALLS; c++)
@@ -1314,18 +1634,19 @@ static void print_table(void)
         if (all == 0)
             continue;
         if (v == 0)
-            printf("%-8s", "taken");
+            printf("%-7s", "taken");
         else
-            printf("%-8d", v);
+            printf("%-7d", v);
         for (int c = 0; c < CALLS; c++)
-            printf(" %11lu", tally[c][v]);
-        printf(" %11lu\n", all);
+            printf(" %7lu", tally[c][v]);
+        printf(" %8lu\n", all);
     }
-    printf("%-8s", "all");
+    printf("%-7s", "all");
     for (int c = 0; c < CALLS; c++)
-        printf(" %11lu", calls_of((enum call)c));
-    printf("\n%lu mask changes, %lu frames of noise, %lu lists with rows, %lu rows\n", masks_changed, frames_noise,
-           lists_with_rows, rows_seen);
+        printf(" %7lu", calls_of((enum call)c));
+    printf("\n%lu mask changes, %lu frames of noise, %lu lists with rows, %lu rows, %lu rows of any bytes\n",
+           masks_changed, frames_noise, lists_with_rows, rows_seen, rows_of_any_bytes);
+    printf("%lu subframes with at most one flip in each code word\n", subframes_corrected);
     printf("beside 6 and 19: %u first groups, %u numbers of failing groups, %u numbers of places\n",
            count_seen(first_seen, GROUPS), count_seen(failing_seen, GROUPS), count_seen(places_seen, SLOTS));
 }
@@ -1367,14 +1688,17 @@ int main(int argc, char **argv)
     output_end = room_end(MARGIN + QVD_ROWS_BYTES + 64);
     ledger_end = room_end(MARGIN + MOST_LEDGER);
     log_end = room_end(FRAME_BYTES * LOG_FRAMES);
-    verdicts_end = room_end(MARGIN + LOG_FRAMES + 64);
+    verdicts_end = room_end(MARGIN + 4 * (LOG_FRAMES + 64));
     issues_end = room_end(2 * (SLOTS + 8));
 
     compare_opens(4);
+    compare_unopened(1000);
+    compare_any_bytes(100);
     compare_odd_logs();
     compare_messages(1200 * percent);
     compare_frames(400 * percent);
     compare_writes(800 * percent);
+    compare_subframes(600 * percent);
     begin("log");
     while (calls_of(TAKE) < 1200 * percent)
         compare_log(logs++, 1 + below(chance(20) ? 10 : 300));

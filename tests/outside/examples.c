@@ -1,9 +1,11 @@
-/* The worked examples of the rules, and the code word of the interface
- * document's appendix, held against the independent implementation; the whole
- * list, and what refusals give beside their number, also against the library,
+/* The worked examples of the rules, the code word of the interface document's
+ * appendix, and the table of correction masks of the D1 and D2 messages, held
+ * against the independent implementation; the whole list, what refusals give
+ * beside their number, and two subframes worked by hand also against the library,
  * through its C boundary. */
-#include "library.h"
+#include "quieuvodan.h"
 #include "ref.h"
+#include "words.h"
 
 #include <stdio.h>
 #include <string.h>
@@ -339,9 +341,10 @@ static void whole_list_of_library(void)
 /* What the library gives beside the numbers 6 and 19. */
 static void details_of_library(void)
 {
-    static uint8_t ledger[QVD_LEDGER_BYTES];
+    static uint8_t ledger[QVD_LEDGER_BYTES], room[QVD_CONTENTS_BYTES], before[QVD_CONTENTS_BYTES];
     struct contents one = { .kind = 1 }, four = { .kind = 4 }, six = { .kind = 6 };
     uint8_t frame[FRAME_BYTES];
+    uint32_t detail;
 
     for (int slot = 1; slot <= 48; slot++)
         one.mask.set[slot] = true;
@@ -363,6 +366,76 @@ static void details_of_library(void)
     ref_put_bits(frame, 28, 6, ref_get_bits(frame, 28, 6) ^ 1); /* symbol 0 */
     CHECK(qvd_take_detail(ledger, sizeof ledger, frame, FRAME_BYTES) == 6 + 256 * 8 + 65536 * 2);
     CHECK(qvd_take(ledger, sizeof ledger, frame, FRAME_BYTES) == 6);
+    memset(room, 0xA5, sizeof room);
+    memset(before, 0xA5, sizeof before);
+    CHECK(qvd_read_frame_detail(frame, FRAME_BYTES, room, sizeof room) == 6 + 256 * 8 + 65536 * 2);
+    CHECK(qvd_read_frame(frame, FRAME_BYTES, room, sizeof room) == 6);
+    CHECK(memcmp(room, before, sizeof room) == 0);
+    CHECK(qvd_replay_detail(ledger, sizeof ledger, 60, frame, FRAME_BYTES, &detail, 1) == 0);
+    CHECK(detail == 6 + 256 * 8 + 65536 * 2);
+}
+
+/* Bytes that were never opened are a ledger for no PRN, and take no frame of it. */
+static void never_opened(void)
+{
+    static const uint8_t odd[] = { 0, 6, 58 };
+    static uint8_t bytes[QVD_LEDGER_BYTES], before[QVD_LEDGER_BYTES];
+    struct contents one = { .kind = 1 };
+    uint8_t message[MESSAGE_BYTES], frame[FRAME_BYTES];
+    struct ledger ledger = { 0 };
+
+    CHECK(ref_write(&one, message, MESSAGE_BYTES) == 0);
+    for (size_t i = 0; i < sizeof odd; i++) {
+        ref_encode(message, odd[i], 0x3F, frame);
+        ledger.prn = bytes[0] = before[0] = odd[i];
+        CHECK(ref_take(&ledger, frame, FRAME_BYTES) == 4);
+        CHECK(qvd_take(bytes, sizeof bytes, frame, FRAME_BYTES) == 4);
+        CHECK(qvd_take(bytes, sizeof bytes, frame, FRAME_BYTES - 1) == 1);
+        frame[0] ^= 1;
+        CHECK(qvd_take_detail(bytes, sizeof bytes, frame, FRAME_BYTES) == 3);
+        CHECK(memcmp(bytes, before, sizeof bytes) == 0);
+    }
+}
+
+/* 003's table 5-2: the correction masks, by the rest of the division. */
+static void correction_masks(void)
+{
+    static const uint16_t mask[16] = { 0x0000, 0x0001, 0x0002, 0x0010, 0x0004, 0x0100, 0x0020, 0x0400,
+                                       0x0008, 0x4000, 0x0200, 0x0080, 0x0040, 0x2000, 0x0800, 0x1000 };
+    for (unsigned received = 0; received < 32768; received++) {
+        unsigned rest = received;
+        for (int power_of_x = 14; power_of_x >= 4; power_of_x--)
+            if (rest >> power_of_x & 1)
+                rest ^= 0x13u << (power_of_x - 4);
+        CHECK(ref_bch_correct((uint16_t)received) == (received ^ mask[rest]) >> 4);
+    }
+    for (uint16_t info = 0; info < 2048; info++)
+        CHECK(ref_bch_correct(ref_bch_encode(info)) == info);
+}
+
+/* Two subframes: SOW 0 and 1, FraID 1, all else zero. The first word's eleven bits
+ * are then x^8 of eleven, and x^12 leaves 1111. SOW's last bit is the first of the
+ * second code word of the second word, x^14, which leaves 1001; it stands at bit 2
+ * of that word, and its check bits at 24, 26, 28 and 30. */
+static void subframes(void)
+{
+    static const uint8_t data[2][QVD_D1_DATA_BYTES] = { { 0xE2, 0x40, 0x40 }, { 0xE2, 0x40, 0x40, 0, 0x04 } };
+    static const uint8_t sent[2][QVD_D1_BYTES] = { { 0xE2, 0x40, 0x40, 0x3C },
+                                                   { 0xE2, 0x40, 0x40, 0x3D, 0, 0, 0x04, 0x10 } };
+    uint8_t room[QVD_D1_BYTES], back[QVD_D1_DATA_BYTES];
+
+    for (int i = 0; i < 2; i++) {
+        CHECK(ref_write_subframe(room, sizeof room, data[i], sizeof data[i]) == 0);
+        CHECK(memcmp(room, sent[i], sizeof room) == 0);
+        CHECK(ref_read_subframe(back, sizeof back, sent[i], sizeof sent[i]) == 0);
+        CHECK(memcmp(back, data[i], sizeof back) == 0);
+        memset(room, 0xFF, sizeof room);
+        CHECK(qvd_d1_write(data[i], sizeof data[i], room, sizeof room) == 0);
+        CHECK(memcmp(room, sent[i], sizeof room) == 0);
+        memset(back, 0xFF, sizeof back);
+        CHECK(qvd_d1_read(sent[i], sizeof sent[i], back, sizeof back) == 0);
+        CHECK(memcmp(back, data[i], sizeof back) == 0);
+    }
 }
 
 int main(void)
@@ -377,6 +450,9 @@ int main(void)
     whole_list();
     whole_list_of_library();
     details_of_library();
+    never_opened();
+    correction_masks();
+    subframes();
     printf("examples: %d checked, %d failed\n", checked, failed);
     return failed != 0;
 }

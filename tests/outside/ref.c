@@ -374,7 +374,7 @@ static void read_mask(struct reader *r, struct mask *mask)
 }
 
 /* Refusals 7 to 13, and what the message says where there are none. `out` is
- * all zero when this begins. */
+ * all zero when this begins, and nothing that counts after a refusal. */
 static unsigned read_fields(const uint8_t message[MESSAGE_BYTES], struct contents *out)
 {
     struct reader r = { message, 0 };
@@ -412,22 +412,19 @@ static unsigned read_fields(const uint8_t message[MESSAGE_BYTES], struct content
     return judge(out);
 }
 
-static unsigned read_message(const uint8_t message[MESSAGE_BYTES], struct contents *out)
-{
-    unsigned refusal = read_fields(message, out);
-    if (refusal != 0)
-        memset(out, 0, sizeof *out);
-    return refusal;
-}
-
 unsigned ref_read(const uint8_t *message, size_t length, struct contents *out)
 {
-    memset(out, 0, sizeof *out);
+    struct contents c = { 0 };
+    unsigned refusal;
+
     if (length != MESSAGE_BYTES)
         return 1;
     if (message[MESSAGE_BYTES - 1] & 3)
         return 2;
-    return read_message(message, out);
+    refusal = read_fields(message, &c);
+    if (refusal == 0)
+        *out = c;
+    return refusal;
 }
 
 /* The message's 486 bits, cut out of a frame, with two zero bits after them. */
@@ -442,9 +439,11 @@ unsigned ref_frame_prn(const uint8_t frame[FRAME_BYTES]) { return ref_get_bits(f
 
 unsigned ref_frame_type(const uint8_t frame[FRAME_BYTES]) { return ref_get_bits(frame, CODED_BIT, 6); }
 
+static bool among_ten(unsigned prn) { return (prn >= 1 && prn <= 5) || (prn >= 59 && prn <= 63); }
+
 /* A frame up to its contents. With a ledger `prn` is the ledger's; without one
  * it is -1 and the frame's PRN is not looked at. `out` and `detail` are all zero
- * when this begins. */
+ * when this begins; after a refusal `out` is nothing that counts. */
 static unsigned read_frame(const uint8_t *frame, size_t length, int prn, struct contents *out,
                            struct detail *detail)
 {
@@ -454,7 +453,7 @@ static unsigned read_frame(const uint8_t *frame, size_t length, int prn, struct 
         return 1;
     if (ref_get_bits(frame, 0, 16) != SYNC)
         return 3;
-    if (prn >= 0 && ref_frame_prn(frame) != (unsigned)prn)
+    if (prn >= 0 && !(among_ten((unsigned)prn) && ref_frame_prn(frame) == (unsigned)prn))
         return 4;
     if (ref_get_bits(frame, 22, 1) != 0)
         return 5;
@@ -463,14 +462,19 @@ static unsigned read_frame(const uint8_t *frame, size_t length, int prn, struct 
     if (detail->failing != 0)
         return 6;
     cut_message(frame, message);
-    return read_message(message, out);
+    return read_fields(message, out);
 }
 
 unsigned ref_read_frame_detail(const uint8_t *frame, size_t length, struct contents *out, struct detail *detail)
 {
-    memset(out, 0, sizeof *out);
+    struct contents c = { 0 };
+    unsigned refusal;
+
     memset(detail, 0, sizeof *detail);
-    return read_frame(frame, length, -1, out, detail);
+    refusal = read_frame(frame, length, -1, &c, detail);
+    if (refusal == 0)
+        *out = c;
+    return refusal;
 }
 
 unsigned ref_read_frame(const uint8_t *frame, size_t length, struct contents *out)
@@ -612,7 +616,7 @@ unsigned ref_write(const struct contents *in, uint8_t *room, size_t length)
 
 unsigned ref_open(struct ledger *ledger, unsigned prn)
 {
-    if (!((prn >= 1 && prn <= 5) || (prn >= 59 && prn <= 63)))
+    if (!among_ten(prn))
         return 4;
     memset(ledger, 0, sizeof *ledger);
     ledger->prn = (uint8_t)prn;
@@ -743,7 +747,7 @@ static bool qualifies(const struct ledger *ledger, const uint16_t *issues, unsig
     const struct held_orbit *orbit = &ledger->orbit[slot];
     const struct held_clock *clock = &ledger->clock[slot];
 
-    return ledger->has_mask && ledger->mask.set[slot] && orbit->held && clock->held &&
+    return slot <= ASSIGNED_SLOTS && ledger->has_mask && ledger->mask.set[slot] && orbit->held && clock->held &&
            orbit->iod_ssr == ledger->mask.iod_ssr && clock->iod_ssr == ledger->mask.iod_ssr &&
            orbit->record.iod_corr == clock->iod_corr && orbit->record.ura.kind != URA_UNKNOWN &&
            orbit->record.radial != -16384 && orbit->record.along != -4096 && orbit->record.cross != -4096 &&

@@ -3,8 +3,7 @@
  * table and no code with the library that it is compared with.
  *
  * Functions that can refuse return the refusal number, 0 for taken. What they
- * were lent stays as it was on a refusal, save that a refused reading gives
- * contents that are all zero. */
+ * were lent stays as it was on a refusal; a detail alone is given always. */
 #ifndef REF_H
 #define REF_H
 
@@ -156,14 +155,15 @@ unsigned ref_write(const struct contents *in, uint8_t *room, size_t length);
 unsigned ref_read_frame(const uint8_t *frame, size_t length, struct contents *out);
 unsigned ref_read_frame_detail(const uint8_t *frame, size_t length, struct contents *out, struct detail *detail);
 
-/* The ledger: 4 on opening; 1, 3 to 15, 19 on taking a frame. */
+/* The ledger: 4 on opening; 1, 3 to 15, 19 on taking a frame. A ledger whose PRN
+ * is none of the ten takes no frame. */
 unsigned ref_open(struct ledger *ledger, unsigned prn);
 unsigned ref_take(struct ledger *ledger, const uint8_t *frame, size_t length);
 unsigned ref_take_detail(struct ledger *ledger, const uint8_t *frame, size_t length, struct detail *detail);
 
 /* The list, against `n` broadcast issues, issues[k - 1] for slot k. Count and
  * all rows, in rising slot order: refusals 1, 17. Row at a position (from 1):
- * 1, 17, 18. Row of a slot: 1, 11, 17, 18. */
+ * 1, 17, 18. Row of a slot: 1, 11, 17, 18. A slot above 174 has no row. */
 unsigned ref_count(const struct ledger *ledger, const uint16_t *issues, size_t n, size_t *count);
 unsigned ref_rows(const struct ledger *ledger, const uint16_t *issues, size_t n,
                   struct row rows[ASSIGNED_SLOTS], size_t *count);

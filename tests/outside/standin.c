@@ -3,14 +3,17 @@
  * to find faults can be tried (see mutants), and the benchmark has its second
  * contender. */
 #include "forms.h"
-#include "library.h"
+#include "quieuvodan.h"
 #include "ref.h"
+#include "words.h"
 
 #include <string.h>
 
 _Static_assert(sizeof(struct ledger) <= QVD_LEDGER_BYTES, "the ledger fits its bytes");
 _Static_assert((int)ROW_FORM_BYTES == (int)QVD_ROW_BYTES, "one row form");
 _Static_assert((int)CONTENTS_FORM_BYTES == (int)QVD_CONTENTS_BYTES, "one contents form");
+_Static_assert((int)SUBFRAME_BYTES == (int)QVD_D1_BYTES, "one length of subframes");
+_Static_assert((int)SUBFRAME_DATA_BYTES == (int)QVD_D1_DATA_BYTES, "one length of their information");
 
 static void store(uint8_t *bytes, const struct ledger *ledger)
 {
@@ -57,19 +60,44 @@ uint32_t qvd_take_detail(uint8_t *ledger, size_t n, const uint8_t *frame, size_t
     return detail_to_number(refusal, &detail);
 }
 
+static size_t frames_of(size_t m) { return m / FRAME_BYTES + (m % FRAME_BYTES != 0); }
+
+static size_t length_of_frame(size_t m, size_t i)
+{
+    size_t left = m - i * FRAME_BYTES;
+    return left < FRAME_BYTES ? left : FRAME_BYTES;
+}
+
 uint8_t qvd_replay(uint8_t *ledger, size_t n, uint8_t prn, const uint8_t *log, size_t m,
                    uint8_t *verdicts, size_t k)
 {
     struct ledger l;
     unsigned refusal;
-    if (n != QVD_LEDGER_BYTES || k != m / FRAME_BYTES + (m % FRAME_BYTES != 0))
+    if (n != QVD_LEDGER_BYTES || k != frames_of(m))
+        return 39;
+    refusal = ref_open(&l, prn);
+    if (refusal != 0)
+        return (uint8_t)refusal;
+    for (size_t i = 0; i < k; i++)
+        verdicts[i] = (uint8_t)ref_take(&l, log + i * FRAME_BYTES, length_of_frame(m, i));
+    store(ledger, &l);
+    return 0;
+}
+
+uint8_t qvd_replay_detail(uint8_t *ledger, size_t n, uint8_t prn, const uint8_t *log, size_t m,
+                          uint32_t *details, size_t k)
+{
+    struct ledger l;
+    struct detail detail;
+    unsigned refusal;
+    if (n != QVD_LEDGER_BYTES || k != frames_of(m))
         return 39;
     refusal = ref_open(&l, prn);
     if (refusal != 0)
         return (uint8_t)refusal;
     for (size_t i = 0; i < k; i++) {
-        size_t at = i * FRAME_BYTES, left = m - at;
-        verdicts[i] = (uint8_t)ref_take(&l, log + at, left < FRAME_BYTES ? left : FRAME_BYTES);
+        refusal = ref_take_detail(&l, log + i * FRAME_BYTES, length_of_frame(m, i), &detail);
+        details[i] = detail_to_number(refusal, &detail);
     }
     store(ledger, &l);
     return 0;
@@ -115,7 +143,8 @@ uint8_t qvd_read(const uint8_t *message, size_t m, uint8_t *contents, size_t k)
     if (k != QVD_CONTENTS_BYTES)
         return 39;
     refusal = ref_read(message, m, &c);
-    contents_to_bytes(&c, contents);
+    if (refusal == 0)
+        contents_to_bytes(&c, contents);
     return (uint8_t)refusal;
 }
 
@@ -126,8 +155,22 @@ uint8_t qvd_read_frame(const uint8_t *frame, size_t m, uint8_t *contents, size_t
     if (k != QVD_CONTENTS_BYTES)
         return 39;
     refusal = ref_read_frame(frame, m, &c);
-    contents_to_bytes(&c, contents);
+    if (refusal == 0)
+        contents_to_bytes(&c, contents);
     return (uint8_t)refusal;
+}
+
+uint32_t qvd_read_frame_detail(const uint8_t *frame, size_t m, uint8_t *contents, size_t k)
+{
+    struct contents c;
+    struct detail detail;
+    unsigned refusal;
+    if (k != QVD_CONTENTS_BYTES)
+        return 39;
+    refusal = ref_read_frame_detail(frame, m, &c, &detail);
+    if (refusal == 0)
+        contents_to_bytes(&c, contents);
+    return detail_to_number(refusal, &detail);
 }
 
 uint8_t qvd_write(const uint8_t *contents, size_t k, uint8_t *room, size_t m)
@@ -137,4 +180,14 @@ uint8_t qvd_write(const uint8_t *contents, size_t k, uint8_t *room, size_t m)
         return 39;
     contents_from_bytes(contents, &c);
     return (uint8_t)ref_write(&c, room, m);
+}
+
+uint8_t qvd_d1_read(const uint8_t *subframe, size_t m, uint8_t *data, size_t k)
+{
+    return ref_read_subframe(data, k, subframe, m);
+}
+
+uint8_t qvd_d1_write(const uint8_t *data, size_t k, uint8_t *subframe, size_t m)
+{
+    return ref_write_subframe(subframe, m, data, k);
 }

@@ -1,11 +1,13 @@
 /* D1 and D2 words and subframes, written from source document 003 alone:
  * sections 5.1.3 (code and interleaving), 5.2.2 (words of a subframe) and
  * 5.2.4 (Pre, FraID, SOW). A code word is found by long division of
- * polynomials; a received one is corrected by trying all 2,048 code words and
- * taking the one at distance 0 or 1. Bits are kept one to an element, so no
- * step is shared with the library. */
+ * polynomials; a received one is corrected by the one code word at distance 0 or
+ * 1 of it, found by writing down what each of the 2,048 can become. Bits are kept
+ * one to an element, so no step is shared with the library. */
 #include "words.h"
 
+#include <stdbool.h>
+#include <stdlib.h>
 #include <string.h>
 
 /* ---- bits, high bit first ---- */
@@ -61,15 +63,35 @@ uint16_t ref_bch_encode(uint16_t info)
     return (uint16_t)gather_bits(word, 15);
 }
 
-/* The code is perfect: every 15 bits are at distance 0 or 1 of just one code word. */
+/* What was sent, for each 15 bits that can be received: every code word writes
+ * its eleven bits down at itself and at the 15 places with one bit flipped. */
+static uint16_t sent[32768];
+static bool sent_known;
+
+static void find_sent(void)
+{
+    static uint8_t times[32768];
+    for (uint16_t info = 0; info < 2048; info++) {
+        uint16_t word = ref_bch_encode(info);
+        sent[word] = info;
+        times[word]++;
+        for (int bit = 0; bit < 15; bit++) {
+            uint16_t flipped = (uint16_t)(word ^ 1 << bit);
+            sent[flipped] = info;
+            times[flipped]++;
+        }
+    }
+    for (int i = 0; i < 32768; i++)
+        if (times[i] != 1)
+            abort(); /* the code is perfect: every 15 bits are near just one code word */
+    sent_known = true;
+}
+
 uint16_t ref_bch_correct(uint16_t received)
 {
-    for (uint16_t info = 0; info < 2048; info++) {
-        unsigned differ = (ref_bch_encode(info) ^ received) & 32767;
-        if ((differ & (differ - 1)) == 0)
-            return info;
-    }
-    return 65535;
+    if (!sent_known)
+        find_sent();
+    return sent[received & 32767];
 }
 
 /* ---- words ---- */
@@ -95,7 +117,8 @@ uint32_t ref_read_word(uint32_t received)
         first[i] = word[2 * i];
         second[i] = word[2 * i + 1];
     }
-    return (uint32_t)ref_bch_correct((uint16_t)gather_bits(first, 15)) << 11 | ref_bch_correct((uint16_t)gather_bits(second, 15));
+    return (uint32_t)ref_bch_correct((uint16_t)gather_bits(first, 15)) << 11 |
+           ref_bch_correct((uint16_t)gather_bits(second, 15));
 }
 
 uint32_t ref_write_first(uint32_t info)
@@ -116,6 +139,16 @@ uint32_t ref_read_first(uint32_t received)
 
 /* ---- subframes ---- */
 
+void ref_code_subframe(uint8_t subframe[SUBFRAME_BYTES], const uint8_t data[SUBFRAME_DATA_BYTES])
+{
+    uint8_t bits[304] = { 0 }, info[224];
+    bytes_to_bits(info, data, 224);
+    spread_bits(bits, ref_write_first(gather_bits(info, 26)), 30);
+    for (int i = 1; i < 10; i++)
+        spread_bits(bits + 30 * i, ref_write_word(gather_bits(info + 26 + 22 * (i - 1), 22)), 30);
+    bits_to_bytes(subframe, bits, 304);
+}
+
 /* 32 to 34 by the 224 bits, 0 if none applies. */
 static uint8_t judge(const uint8_t *bits)
 {
@@ -130,8 +163,8 @@ static uint8_t judge(const uint8_t *bits)
 
 uint8_t ref_read_subframe(uint8_t *room, size_t room_length, const uint8_t *s, size_t length)
 {
-    uint8_t bits[304], data[224];
-    if (length != 38 || room_length != 28)
+    uint8_t bits[304], data[224], number;
+    if (length != SUBFRAME_BYTES || room_length != SUBFRAME_DATA_BYTES)
         return 31;
     bytes_to_bits(bits, s, 304);
     if (gather_bits(bits + 300, 4) != 0)
@@ -139,7 +172,7 @@ uint8_t ref_read_subframe(uint8_t *room, size_t room_length, const uint8_t *s, s
     spread_bits(data, ref_read_first(gather_bits(bits, 30)), 26);
     for (int i = 1; i < 10; i++)
         spread_bits(data + 26 + 22 * (i - 1), ref_read_word(gather_bits(bits + 30 * i, 30)), 22);
-    uint8_t number = judge(data);
+    number = judge(data);
     if (number == 0)
         bits_to_bytes(room, data, 224);
     return number;
@@ -147,16 +180,12 @@ uint8_t ref_read_subframe(uint8_t *room, size_t room_length, const uint8_t *s, s
 
 uint8_t ref_write_subframe(uint8_t *room, size_t room_length, const uint8_t *s, size_t length)
 {
-    uint8_t bits[304] = { 0 }, data[224];
-    if (length != 28 || room_length != 38)
+    uint8_t data[224], number;
+    if (length != SUBFRAME_DATA_BYTES || room_length != SUBFRAME_BYTES)
         return 31;
     bytes_to_bits(data, s, 224);
-    uint8_t number = judge(data);
-    if (number != 0)
-        return number;
-    spread_bits(bits, ref_write_first(gather_bits(data, 26)), 30);
-    for (int i = 1; i < 10; i++)
-        spread_bits(bits + 30 * i, ref_write_word(gather_bits(data + 26 + 22 * (i - 1), 22)), 30);
-    bits_to_bytes(room, bits, 304);
-    return 0;
+    number = judge(data);
+    if (number == 0)
+        ref_code_subframe(room, s);
+    return number;
 }
