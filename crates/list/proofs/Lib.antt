@@ -1,2 +1,3 @@
 pub mod UsableLaws
 pub mod AnswerLaws
+pub mod FitsLaws

@@ -3,7 +3,7 @@ use Prim.Native.Nat.{ℕ}
 use mathlib.Core.Bool.{Bool, true, false, not, _&&_}
 use mathlib.Core.List.{List}
 use mathlib.Core.Option.{Option, none, some}
-use lib.Dec.{eqb}
+use lib.Dec.{eqb, leb}
 use lib.IntN.{ℤ, pos, negsuc, _*ℤ_}
 use Rattle.bits.specs.Pick.{pick}
 use Rattle.records.specs.Slots.{satelliteOf}
@@ -38,9 +38,13 @@ usable o k =
 unfoldable pub agrees : ℕ → HeldOrbit → HeldClock → ℕ → Bool
 agrees ssr o k issue = o .has && k .has && eqb (o .ssr) ssr && eqb (k .ssr) ssr && eqb (o .corr) (k .corr) && eqb (o .iodn) issue
 
--- 01: a slot qualifies when the mask in force has its bit, and its orbit, clock and issue agree and are usable
+-- 01, Slots and places: slots 1 to 174 are those of BeiDou, GPS, Galileo and GLONASS; 175 to 255 are reserved and have no satellite
+unfoldable pub isAssigned : ℕ → Bool
+isAssigned slot = leb 1 slot && leb slot 174
+
+-- 01: a slot of a satellite qualifies when the mask in force has its bit, and its orbit, clock and issue agree and are usable
 unfoldable pub qualifies : HeldMask → HeldOrbit → HeldClock → ℕ → ℕ → Bool
-qualifies m o k issue slot = m .has && bitAtSlot (m .bits) slot && agrees (m .ssr) o k issue && usable o k
+qualifies m o k issue slot = isAssigned slot && m .has && bitAtSlot (m .bits) slot && agrees (m .ssr) o k issue && usable o k
 
 -- 01: slot, system and its number, IODN, IOD Corr, the three orbit values, the clock value and the URA; radial and C0 × 16, along and cross × 64
 abbrev pub rowFrom : ℕ → HeldOrbit → HeldClock → Row

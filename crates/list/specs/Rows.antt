@@ -1,5 +1,5 @@
 -- 01, What the ledger keeps: the list, by what a ledger holds, and what it answers.
-use Prim.Native.Nat.{ℕ}
+use Prim.Native.Nat.{ℕ, _≤_}
 use mathlib.Core.Bool.{not, _||_}
 use mathlib.Core.List.{List, [], _∷_}
 use mathlib.Core.Option.{Option}
@@ -23,6 +23,14 @@ rowIn s is slot = rowHeld s (issueOf is slot) slot
 -- 01: the list: the rows of the slots that qualify, in rising slot order
 abbrev pub listIn : List ℕ → List ℕ → List Row
 listIn s is = rows (rowIn s is)
+
+-- 01, Slots and places: so many slots have a satellite
+abbrev pub mostRows : ℕ
+mostRows = 174
+
+-- what is promised of the list of any bytes and any issues: room for 174 rows holds it
+abbrev pub Fits : List Row → Type 0
+Fits l = length l ≤ mostRows
 
 -- 1 for a row, 0 for a refusal
 abbrev pub foundCount : RowAnswer → ℕ

@@ -4,7 +4,7 @@ ghost use lib.Dec.{eqb};
 ghost use lib.IntN.{negsuc};
 ghost use mathlib.Core.Option.{some, none};
 ghost use Rattle.held_mask.specs.Mask.{maskAt};
-ghost use Rattle.list.specs.Row.{isKnown, usable, agrees, rowFrom, rowHeld, answerOf};
+ghost use Rattle.list.specs.Row.{isAssigned, isKnown, usable, agrees, rowFrom, rowHeld, answerOf};
 use held_clocks::HeldClock;
 use held_orbits::HeldOrbit;
 use records::slots::Slot;
@@ -29,6 +29,14 @@ pub struct Row {
 pub enum RowAnswer {
     Found(Row),
     Refused(u8),
+}
+
+// Whether a slot has a satellite: 1 to 174.
+fn is_assigned(slot: Slot) -> bool
+    ensures { λ r. ⌜ r ≡ isAssigned (slot .0) ⌝ }
+{
+    let s = slot.0;
+    (1 <= s) & (s <= 174)
 }
 
 // Whether a URA's code is not 0.
@@ -86,6 +94,9 @@ fn row_from(slot: u8, o: HeldOrbit, k: HeldClock) -> Row
 pub fn slot_row(ledger: &[u8], slot: u8, issue: u16) -> RowAnswer
     ensures { λ r. ⌜ r ≡ answerOf 0 (rowHeld (now (ledger .entry)) issue slot) ⌝ }
 {
+    if !is_assigned(Slot(slot)) {
+        return RowAnswer::Refused(18);
+    }
     if !held_mask::has_mask(ledger) {
         return RowAnswer::Refused(18);
     }

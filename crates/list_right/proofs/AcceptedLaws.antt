@@ -1,16 +1,16 @@
--- What is in force after frames that are accepted, by their contents alone.
+-- What is in force after frames whose shells are good, by their contents alone, where nothing is refused of those.
 use Prim.Native.Nat.{ℕ}
-use mathlib.Core.Path.{_≡_, refl, sym, ap, _∙_}
-use mathlib.Core.Bool.{Bool, not}
+use mathlib.Core.Path.{_≡_, refl, sym, _∙_}
+use mathlib.Core.Bool.{not}
 use mathlib.Core.Logic.{dite}
 use native.Mathlib.Decide.{ℕ-discrete}
 use borrow.Author.Tests.{eq-eqb, ne-eqb}
 use mathlib.Core.List.{List, [], _∷_}
-use mathlib.Core.Option.{Option, none, some}
 use lib.Dec.{eqb}
 use Rattle.bits.specs.Pick.{pick}
 use Rattle.contents.specs.declared.parts.Contents.{Contents}
-use Rattle.frame.specs.Frame.{contentsOf, foreignTo, refusalWith}
+use Rattle.judge.specs.Judge.{refusalOf}
+use Rattle.frame.specs.Frame.{contentsOf, foreignTo, shellRefusal, refusalWith}
 use Rattle.lookback.specs.Store.{naming, getOr, standingOr, since}
 use Rattle.held_clocks.specs.Clocks.{noClock, clocksKept}
 use Rattle.held_orbits.specs.Orbits.{noOrbit}
@@ -23,8 +23,9 @@ use Rattle.list.specs.Issues.{issueOf}
 use Rattle.list.specs.Row.{rowOf}
 use Rattle.list.specs.declared.row.Row.{Row}
 use Rattle.list_right.specs.InForce.{rowInForce, listInForce}
+use Rattle.list_right.specs.Good.{Good, Taken}
 use Rattle.places.specs.Keeps.{maskOf, orbitsOf, clocksOf, maskRefusal, refusalUnder}
-use Rattle.in_force.specs.Back.{maskInForce, refusalAfter, accepted, maskBy, orbitBy, clockBy, orbitInForce, clockBack, clockInForce}
+use Rattle.in_force.specs.Back.{maskInForce, refusalAfter, maskBy, orbitBy, clockBy, orbitInForce, clockBack}
 
 -- the same looking back, over the contents of accepted frames
 unfoldable pub maskOver : List Contents → HeldMask
@@ -40,16 +41,18 @@ clockOver ms [] s = noClock
 clockOver ms (c ∷ cs) s =
     standingOr clocksKept sameMask (naming s (clocksOf (maskOver cs) (c .kind) (c .clock))) (maskOver cs) ms (clockOver (since (maskOf c) ms) cs s)
 
--- frames that are accepted one after the other, with these contents
-abbrev pub Accepted : ℕ → List (List ℕ) → List Contents → Type 0
-Accepted prn [] [] = Unit {0}
-Accepted prn [] (c ∷ cs) = ⊥
-Accepted prn (f ∷ h) [] = ⊥
-Accepted prn (f ∷ h) (c ∷ cs) =
-    (refusalWith (foreignTo prn f) f ≡ 0) × (contentsOf f ≡ c) × (maskRefusal (maskOver cs) c ≡ 0) × Accepted prn h cs
+-- contents of which nothing is refused, alone or under the mask that those before them leave
+abbrev pub Sound : List Contents → Type 0
+Sound [] = Unit {0}
+Sound (c ∷ cs) = (refusalOf c ≡ 0) × (maskRefusal (maskOver cs) c ≡ 0) × Sound cs
+
+-- a good shell around contents of which nothing is refused can be read
+read-good : (prn : ℕ) (f : List ℕ) (c : Contents) → shellRefusal (foreignTo prn f) f ≡ 0 → contentsOf f ≡ c → refusalOf c ≡ 0 → refusalWith (foreignTo prn f) f ≡ 0
+unfolding refusalWith
+read-good prn f c a e r = rw (a, e, r)
 
 -- a frame that can be read is refused for its mask alone
-pub refusal-read : (prn : ℕ) (m : HeldMask) (f : List ℕ) (c : Contents) → refusalWith (foreignTo prn f) f ≡ 0 → contentsOf f ≡ c → refusalUnder prn m f ≡ maskRefusal m c
+refusal-read : (prn : ℕ) (m : HeldMask) (f : List ℕ) (c : Contents) → refusalWith (foreignTo prn f) f ≡ 0 → contentsOf f ≡ c → refusalUnder prn m f ≡ maskRefusal m c
 unfolding refusalUnder
 refusal-read prn m f c a e = rw (a, e) (go (maskRefusal m c))
   where
@@ -57,32 +60,41 @@ refusal-read prn m f c a e = rw (a, e) (go (maskRefusal m c))
     go n = dite (ℕ-discrete n 0) (λ z. rw (eq-eqb n 0 z) (sym z)) (λ z. rw (ne-eqb n 0 z))
 
 module _ (prn : ℕ) where
-  pub mask-over : (h : List (List ℕ)) (cs : List Contents) → Accepted prn h cs → maskInForce prn h ≡ maskOver cs
+  mask-over : (h : List (List ℕ)) (cs : List Contents) → Good prn h cs → Sound cs → maskInForce prn h ≡ maskOver cs
   unfolding maskInForce maskBy maskOver
-  mask-over [] [] A = refl
-  mask-over (f ∷ h) (c ∷ cs) A = rw (mask-over h cs (A .3), A .0, A .1)
+  mask-over [] [] G S = refl
+  mask-over (f ∷ h) (c ∷ cs) G S = rw (mask-over h cs (G .2) (S .2), read-good prn f c (G .0) (G .1) (S .0), G .1)
 
-  taken-over : (f : List ℕ) (h : List (List ℕ)) (c : Contents) (cs : List Contents) → Accepted prn (f ∷ h) (c ∷ cs) → refusalAfter prn h f ≡ 0
-  taken-over f h c cs A =
-      rw (mask-over h cs (A .3)) (refusal-read prn (maskOver cs) f c (A .0) (A .1) ∙ A .2)
+  -- after such frames, a good shell is refused for its mask alone
+  pub refusal-good : (f : List ℕ) (h : List (List ℕ)) (c : Contents) (cs : List Contents) → Good prn (f ∷ h) (c ∷ cs) → refusalOf c ≡ 0 → Sound cs → refusalAfter prn h f ≡ maskRefusal (maskOver cs) c
+  refusal-good f h c cs G r S =
+      rw (mask-over h cs (G .2) S) (refusal-read prn (maskOver cs) f c (read-good prn f c (G .0) (G .1) r) (G .1))
 
-  pub orbit-over : (h : List (List ℕ)) (cs : List Contents) (s : ℕ) → Accepted prn h cs → orbitInForce prn h s ≡ orbitOver cs s
+  accepted-over : (f : List ℕ) (h : List (List ℕ)) (c : Contents) (cs : List Contents) → Good prn (f ∷ h) (c ∷ cs) → Sound (c ∷ cs) → refusalAfter prn h f ≡ 0
+  accepted-over f h c cs G S = refusal-good f h c cs G (S .0) (S .2) ∙ S .1
+
+  -- all of them are accepted
+  pub taken-over : (h : List (List ℕ)) (cs : List Contents) → Good prn h cs → Sound cs → Taken prn h
+  taken-over [] [] G S = tt
+  taken-over (f ∷ h) (c ∷ cs) G S = (accepted-over f h c cs G S, taken-over h cs (G .2) (S .2))
+
+  orbit-over : (h : List (List ℕ)) (cs : List Contents) (s : ℕ) → Good prn h cs → Sound cs → orbitInForce prn h s ≡ orbitOver cs s
   unfolding orbitInForce orbitOver orbitBy
-  orbit-over [] [] s A = refl
-  orbit-over (f ∷ h) (c ∷ cs) s A = rw (taken-over f h c cs A, A .1, orbit-over h cs s (A .3))
+  orbit-over [] [] s G S = refl
+  orbit-over (f ∷ h) (c ∷ cs) s G S = rw (accepted-over f h c cs G S, G .1, orbit-over h cs s (G .2) (S .2))
 
-  pub clock-over : (ms : List HeldMask) (h : List (List ℕ)) (cs : List Contents) (s : ℕ) → Accepted prn h cs → clockBack prn ms h s ≡ clockOver ms cs s
+  clock-over : (ms : List HeldMask) (h : List (List ℕ)) (cs : List Contents) (s : ℕ) → Good prn h cs → Sound cs → clockBack prn ms h s ≡ clockOver ms cs s
   unfolding clockBack clockOver clockBy maskBy
-  clock-over ms [] [] s A = refl
-  clock-over ms (f ∷ h) (c ∷ cs) s A =
-      rw (taken-over f h c cs A, A .1, mask-over h cs (A .3), clock-over (since (maskOf c) ms) h cs s (A .3))
+  clock-over ms [] [] s G S = refl
+  clock-over ms (f ∷ h) (c ∷ cs) s G S =
+      rw (accepted-over f h c cs G S, read-good prn f c (G .0) (G .1) (S .0), G .1, mask-over h cs (G .2) (S .2), clock-over (since (maskOf c) ms) h cs s (G .2) (S .2))
 
   -- the list by looking back, by the contents
   unfoldable pub listOver : List Contents → List ℕ → List Row
   listOver cs is = rows (λ (s : ℕ). rowOf (maskOver cs) (orbitOver cs s) (clockOver [] cs s) (issueOf is s) s)
 
-  pub list-over : (h : List (List ℕ)) (cs : List Contents) (is : List ℕ) → Accepted prn h cs → listInForce prn h is ≡ listOver cs is
+  pub list-over : (h : List (List ℕ)) (cs : List Contents) (is : List ℕ) → Good prn h cs → Sound cs → listInForce prn h is ≡ listOver cs is
   unfolding listInForce rowInForce listOver
-  list-over h cs is A =
+  list-over h cs is G S =
       rows-same (rowInForce prn h is) (λ (s : ℕ). rowOf (maskOver cs) (orbitOver cs s) (clockOver [] cs s) (issueOf is s) s)
-      (λ s p q. rw (mask-over h cs A, orbit-over h cs s A, clock-over [] h cs s A))
+      (λ s p q. rw (mask-over h cs G S, orbit-over h cs s G S, clock-over [] h cs s G S))

@@ -1,146 +1,52 @@
--- 01, Examples to hold against it: all that are marked [T], as one statement over the definitions, computed.
-use Prim.Native.Nat.{ℕ, _+_, _-_}
+-- 01, Examples to hold against it: the statement holds, computed.
 use mathlib.Core.Path.{_≡_, refl, _∙_}
-use mathlib.Core.Bool.{Bool, true, false}
-use mathlib.Core.List.{List, [], _∷_, _++_}
-use lib.IntN.{pos, negsuc}
-use lib.ListN.{replicate, set}
+use mathlib.Core.List.{[], _∷_}
 use Rattle.bits.specs.Table.{table}
-use Rattle.bits.specs.Bits.{bitAt, bitsFrom}
-use Rattle.bits.specs.Poly.{timesX}
-use Rattle.field64.specs.Field.{product}
+use Rattle.bits.specs.Some.{anyOf}
 use Rattle.field64.proofs.Examples.{products}
-use Rattle.check24.specs.Check.{checkOf}
 use Rattle.check24.proofs.Examples.{checks}
-use Rattle.records.specs.Ura.{uraOf}
 use Rattle.records.specs.Slots.{setCount, nthFrom}
-use Rattle.records.specs.declared.ura.Ura.the-variants.{Unknown, Quarters, Above}
-use Rattle.records.specs.declared.slots.System.the-variants.{BeiDou}
-use Rattle.records.specs.Orbit.{blankOrbit}
-use Rattle.records.specs.Clock.{blankClock}
-use Rattle.layout.specs.Layout.{layoutOf, endOf}
-use Rattle.judge.specs.Judge.{refusalOf}
-use Rattle.judge.proofs.Examples.{refused-6-3-5}
+use Rattle.layout.specs.Layout.{layoutOf}
 use Rattle.contents.specs.Parts.{noMask, noClocks, noOrbits}
-use Rattle.contents.specs.declared.parts.Contents.{Contents}
-use Rattle.frame.specs.Frame.{contentsOf, foreignTo, refusalWith}
+use Rattle.judge.specs.Judge.{clockSlots, orbitSlots, refusalOf}
+use Rattle.judge.proofs.Examples.{refused-6-3-5}
 use Rattle.lookback.specs.Store.{naming, allSame}
 use Rattle.lookback.specs.Walk.{rowsFrom}
 use Rattle.held_mask.specs.Mask.{sameBits, sameMask}
-use Rattle.places.specs.Keeps.{byPlace, bySlot, maskOf, orbitsOf, clocksOf, placeRefusal}
-use Rattle.in_force.specs.Back.{refusalAfter}
-use Rattle.list.specs.Row.{usable, agrees, qualifies, rowOf}
-use Rattle.list.specs.declared.row.Row.{Row}
-use Rattle.list_right.specs.InForce.{listInForce}
-use Rattle.list_right.proofs.AcceptedLaws.{maskOver, orbitOver, clockOver, Accepted, listOver, list-over, mask-over, refusal-read}
+use Rattle.places.specs.Keeps.{byPlace, bySlot, maskOf, orbitsOf, clocksOf, placeRefusal, maskRefusal}
+use Rattle.list.specs.Row.{isAssigned, usable, agrees, qualifies, rowOf}
+use Rattle.list_right.specs.Examples.{one, two, four, other, sent, issues, row19, Hold}
+use Rattle.list_right.proofs.AcceptedLaws.{maskOver, orbitOver, clockOver, Sound, listOver, list-over, taken-over, refusal-good}
 
--- a mask of the slots given
-abbrev maskBits : List ℕ → List Bool
-maskBits [] = replicate 255 false
-maskBits (s ∷ ss) = set (maskBits ss) (s - 1) true
+-- 8 to 13 do not apply to any of the contents
+judged : (refusalOf other ≡ 0) × (refusalOf four ≡ 0) × (refusalOf two ≡ 0) × (refusalOf one ≡ 0)
+unfolding refusalOf clockSlots orbitSlots anyOf layoutOf noMask noClocks noOrbits table
+judged = (refl, refl, refl, refl)
 
--- type 1: epoch 3600, SSR 1
-abbrev mask : ℕ → List ℕ → Contents
-mask iodp ss = record { kind = 1; mask = record { epoch = 3600; ssr = 1; iodp = iodp; bits = maskBits ss }; clock = noClocks; orbit = noOrbits }
+-- 14 and 15 do not apply, under the mask that the contents before them leave
+placed : (maskRefusal (maskOver sent) other ≡ 0) × (maskRefusal (maskOver (two ∷ one ∷ [])) four ≡ 0) × (maskRefusal (maskOver (one ∷ [])) two ≡ 0) × (maskRefusal (maskOver []) one ≡ 0)
+unfolding placeRefusal maskOver maskOf setCount noMask noClocks noOrbits table
+placed = (refl, refl, refl, refl)
 
--- type 1: IODP 5, slots 3, 19, 64, 101
-abbrev one : Contents
-one = mask 5 (3 ∷ 19 ∷ 64 ∷ 101 ∷ [])
+sound-sent : Sound sent
+sound-sent = (judged .1, placed .1, (judged .2, placed .2, (judged .3, placed .3, tt)))
 
--- type 2: epoch 3606, SSR 1
-abbrev two : Contents
-two =
-    record {
-      kind = 2;
-      mask = noMask;
-      clock = noClocks;
-      orbit = record {
-        epoch = 3606;
-        ssr = 1;
-        count = 6;
-        orbits =
-            record { slot = 19; iodn = 37; corr = 2; radial = pos 100; along = negsuc 49; cross = pos 20; ura = uraOf 19 }
-            ∷ record { slot = 64; iodn = 88; corr = 4; radial = negsuc 0; along = pos 0; cross = pos 4095; ura = uraOf 63 }
-            ∷ replicate 4 blankOrbit;
-      };
-    }
+sound-other : Sound (other ∷ sent)
+sound-other = (judged .0, placed .0, sound-sent)
 
--- type 4: epoch 3612, SSR 1, IODP 5, sub-type 0
-abbrev four : Contents
-four =
-    record {
-      kind = 4;
-      mask = noMask;
-      clock = record {
-        epoch = 3612;
-        ssr = 1;
-        iodp = 5;
-        start = 0;
-        count = 23;
-        clocks =
-            record { slot = 0; corr = 1; c0 = pos 7 }
-            ∷ record { slot = 0; corr = 2; c0 = negsuc 149 }
-            ∷ record { slot = 0; corr = 4; c0 = negsuc 16383 }
-            ∷ replicate 20 blankClock;
-      };
-      orbit = noOrbits;
-    }
-
--- type 1: IODP 6, slots 3, 5, 19, 64, 101
-abbrev other : Contents
-other = mask 6 (3 ∷ 5 ∷ 19 ∷ 64 ∷ 101 ∷ [])
-
--- slot 19 is 37, slot 64 is 88, others none
-abbrev issues : List ℕ
-issues = set (set (replicate 255 65535) 18 37) 63 88
-
--- slot 19, BeiDou 19, IODN 37, Corr 2, radial 1600, along −3200, cross 1280, clock −2400, URA 59 quarters
-abbrev row19 : Row
-row19 =
-    record {
-      slot = record { 0 = 19 };
-      system = BeiDou;
-      number = 19;
-      iodn = 37;
-      corr = 2;
-      radial = pos 1600;
-      along = negsuc 3199;
-      cross = pos 1280;
-      clock = negsuc 2399;
-      ura = Quarters 59;
-    }
-
-whole-over : listOver 60 (four ∷ two ∷ one ∷ []) issues ≡ row19 ∷ []
-unfolding listOver maskOver orbitOver clockOver maskOf orbitsOf clocksOf byPlace bySlot naming allSame sameBits sameMask setCount nthFrom rowsFrom rowOf qualifies agrees usable noMask noClocks noOrbits table
+whole-over : listOver 60 sent issues ≡ row19 ∷ []
+unfolding listOver maskOver orbitOver clockOver maskOf orbitsOf clocksOf byPlace bySlot naming allSame sameBits sameMask setCount nthFrom rowsFrom rowOf qualifies isAssigned agrees usable noMask noClocks noOrbits table
 whole-over = refl
 
-gone-over : listOver 60 (other ∷ four ∷ two ∷ one ∷ []) issues ≡ []
-unfolding listOver maskOver orbitOver clockOver maskOf orbitsOf clocksOf byPlace bySlot naming allSame sameBits sameMask setCount nthFrom rowsFrom rowOf qualifies agrees usable noMask noClocks noOrbits table
+gone-over : listOver 60 (other ∷ sent) issues ≡ []
+unfolding listOver maskOver orbitOver clockOver maskOf orbitsOf clocksOf byPlace bySlot naming allSame sameBits sameMask setCount nthFrom rowsFrom rowOf qualifies isAssigned agrees usable noMask noClocks noOrbits table
 gone-over = refl
 
-again-over : placeRefusal (maskOver (other ∷ four ∷ two ∷ one ∷ [])) (four .kind) (four .clock) ≡ 14
+again-over : maskRefusal (maskOver (other ∷ sent)) four ≡ 14
 unfolding placeRefusal maskOver maskOf setCount noMask noClocks noOrbits table
 again-over = refl
 
--- THE EXAMPLES
-pub record Hold : Type 0 where
-  -- 2 × 32 = 3; 2 × 63 = 61; 32 × 32 = 48
-  pub field : (product 2 32 ≡ 3) × (product 2 63 ≡ 61) × (product 32 32 ≡ 48)
-  -- the check of 462 zero bits is 0; with only the last one set it is 0x864CFB
-  pub check : (checkOf (replicate 58 0) 0 462 ≡ 0) × (checkOf (replicate 57 0 ++ 4 ∷ []) 0 462 ≡ 0x864CFB)
-  -- type 6: 22 and 0 ends at 446; 2 and 5 at 454; 3 and 5 at 472. Type 7: 2 and 5 at 459
-  pub ends : (endOf (layoutOf 6 22 0) ≡ 446) × (endOf (layoutOf 6 2 5) ≡ 454) × (endOf (layoutOf 6 3 5) ≡ 472) × (endOf (layoutOf 7 2 5) ≡ 459)
-  -- 3 and 5 is refused 9
-  pub long : (c : Contents) → c .kind ≡ 6 → c .clock .count ≡ 3 → c .orbit .count ≡ 5 → refusalOf c ≡ 9
-  -- URA code 19 is 59 quarters; code 62 is 21,866
-  pub ura : (uraOf 19 ≡ Quarters 59) × (uraOf 62 ≡ Quarters 21866)
-  -- the whole list, of any frames accepted with these contents
-  pub whole : (h : List (List ℕ)) → Accepted 60 h (four ∷ two ∷ one ∷ []) → listInForce 60 h issues ≡ row19 ∷ []
-  -- after the other mask it is empty
-  pub gone : (h : List (List ℕ)) → Accepted 60 h (other ∷ four ∷ two ∷ one ∷ []) → listInForce 60 h issues ≡ []
-  -- and the same type 4 is refused 14
-  pub again : (h : List (List ℕ)) (f : List ℕ) → Accepted 60 h (other ∷ four ∷ two ∷ one ∷ []) → refusalWith (foreignTo 60 f) f ≡ 0 → contentsOf f ≡ four → refusalAfter 60 h f ≡ 14
-
+-- THE EXAMPLES HOLD
 pub examples : Hold
 unfolding layoutOf
 examples = record {
@@ -149,7 +55,8 @@ examples = record {
   ends = (refl, refl, refl, refl);
   long = refused-6-3-5;
   ura = (refl, refl);
-  whole = λ h A. list-over 60 h (four ∷ two ∷ one ∷ []) issues A ∙ whole-over;
-  gone = λ h A. list-over 60 h (other ∷ four ∷ two ∷ one ∷ []) issues A ∙ gone-over;
-  again = λ h f A a e. rw (mask-over 60 h (other ∷ four ∷ two ∷ one ∷ []) A) (refusal-read 60 (maskOver (other ∷ four ∷ two ∷ one ∷ [])) f four a e ∙ again-over);
+  taken = λ h G. taken-over 60 h sent G sound-sent;
+  whole = λ h G. list-over 60 h sent issues G sound-sent ∙ whole-over;
+  gone = λ h G. (taken-over 60 h (other ∷ sent) G sound-other, list-over 60 h (other ∷ sent) issues G sound-other ∙ gone-over);
+  again = λ f h G. refusal-good 60 f h four (other ∷ sent) G (judged .1) sound-other ∙ again-over;
 }

@@ -1,19 +1,19 @@
 -- Demand 3: the list that a ledger gives is the list by looking back, and that list is right.
-use Prim.Native.Nat.{ℕ, zero, suc, _+_, _-_, _≤_, _<_}
+use Prim.Native.Nat.{ℕ, zero, suc, _+_, _≤_}
 use mathlib.Core.Path.{_≡_, refl, sym, ap, _∙_}
 use mathlib.Core.Bool.{Bool, true, false}
-use mathlib.Core.List.{List, [], _∷_, List·Memᴰ}
-use mathlib.Core.Option.{Option, none, some}
+use mathlib.Core.List.{List}
+use mathlib.Core.Option.{none, some}
 use native.Mathlib.Omega.{arith}
-use lib.ListN.{getD, length}
+use lib.ListN.{length}
 use Rattle.bits.specs.Pick.{pick}
-use Rattle.lookback.specs.Walk.{rows, rowsFrom, countFrom, nthOf, toList}
-use Rattle.lookback.proofs.WalkLaws.{Found, rows-same, rows-found, found-rows, rows-rise, count-length}
+use Rattle.lookback.specs.Walk.{rows, countFrom, nthOf}
+use Rattle.lookback.proofs.WalkLaws.{rows-same, rows-found, found-rows, rows-rise, count-length}
 use Rattle.held_mask.specs.Size.{size}
 use Rattle.in_force.specs.Bytes.{fresh, runBytes, Holds}
 use Rattle.in_force.proofs.BackLaws.{holds-run}
 use Rattle.list.specs.Issues.{issuesRefusal}
-use Rattle.list.specs.Row.{qualifies, rowFrom, rowOf, answerOf}
+use Rattle.list.specs.Row.{rowOf, answerOf}
 use Rattle.list.specs.Rows.{rowIn, listIn, countAnswer, rowAtAnswer, rowOfSlotAnswer}
 use Rattle.list.specs.declared.row.Row.{Row}
 use Rattle.list.specs.declared.rows.Count.the-variants as count

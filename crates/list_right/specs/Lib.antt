@@ -1,2 +1,4 @@
 pub mod InForce
 pub mod Right
+pub mod Good
+pub mod Examples

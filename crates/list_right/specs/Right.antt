@@ -1,7 +1,7 @@
 -- Demand 3: what it means that a list is right.
 use Prim.Native.Nat.{ℕ, zero, suc, _+_, _≤_, _<_}
 use mathlib.Core.Path.{_≡_}
-use mathlib.Core.Bool.{Bool, true}
+use mathlib.Core.Bool.{true}
 use mathlib.Core.List.{List, List·Memᴰ}
 use lib.ListN.{getD, length}
 use Rattle.bits.specs.Pick.{pick}
