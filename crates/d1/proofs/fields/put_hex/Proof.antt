@@ -1,0 +1,61 @@
+use Rattle.io.proofs.Counting.{counts}
+use borrow.Author.Needs.{needs}
+use native.Mathlib.Omega.{arith}
+use Prim.Native.Nat.{ℕ, zero, suc, _+_, _*_, _-_, _/_, _%_, _^_, _≤_, _<_}
+use mathlib.Core.Path.{_≡_, sym, ap, _∙_, refl, subst}
+use lib.ListN.{length, getD}
+use Rattle.d1.proofs.fields.put_hex.Statement.{statement}
+use Rattle.d1.proofs.fields.put_hex.Tie as tie
+use Rattle.d1.proofs.fields.put_hex.Reads as reads
+use Rattle.d1.proofs.fields.put_hex.Lts as lts
+use Rattle.console.proofs.put.place_in.Reads as place-in-reads
+use Rattle.d1.proofs.fields.put_pair.Reads as put-pair-reads
+
+abbrev Inv-loop : tie.InvT-loop
+Inv-loop room₀ at s n₀ i₀ room n i = (length room ≡ length room₀) × (n ≤ length room) × (i ≤ length s)
+
+abbrev μ-loop : tie.MeasureT-loop
+μ-loop room₀ at s n₀ i₀ room n i = length s - i
+
+place-in-requires : tie.Need-place-in-requires Inv-loop μ-loop
+place-in-requires c κs = search needs
+
+loop-holds : tie.Need-loop-holds Inv-loop μ-loop
+loop-holds c = search needs
+
+shared-slice-read-put-pair : tie.Need-shared-slice-read-put-pair Inv-loop μ-loop
+shared-slice-read-put-pair c = search needs
+
+put-pair-requires : tie.Need-put-pair-requires Inv-loop μ-loop
+put-pair-requires c κs = search needs
+
+add-i : tie.Need-add-i Inv-loop μ-loop
+add-i c = search needs
+
+loop-less : tie.Need-loop-less Inv-loop μ-loop
+loop-less c = search needs
+
+loop-again : tie.Need-loop-again Inv-loop μ-loop
+loop-again c = search needs
+
+same-length : tie.Need-same-length Inv-loop μ-loop
+same-length c = search needs
+
+returns : tie.Need-returns Inv-loop μ-loop
+returns c = counts _ _ (omega arith)
+
+pub put-hex-spec : {M : Type 1} → statement M
+put-hex-spec =
+    tie.close
+    (tie.spec
+    Inv-loop
+    μ-loop
+    place-in-requires
+    loop-holds
+    shared-slice-read-put-pair
+    put-pair-requires
+    add-i
+    loop-less
+    loop-again
+    same-length
+    returns)

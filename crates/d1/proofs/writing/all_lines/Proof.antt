@@ -1,0 +1,69 @@
+use borrow.Author.Needs.{needs}
+use native.Mathlib.Omega.{arith}
+use Prim.Native.Nat.{ℕ, zero, suc, _+_, _*_, _-_, _/_, _%_, _^_, _≤_, _<_}
+use mathlib.Core.Path.{_≡_, sym, ap, _∙_, refl, subst}
+use lib.ListN.{length, getD}
+use Rattle.d1.proofs.writing.all_lines.Statement.{statement}
+use Rattle.d1.proofs.writing.all_lines.Tie as tie
+use Rattle.d1.proofs.writing.all_lines.Reads as reads
+use Rattle.d1.proofs.writing.all_lines.Lts as lts
+use Rattle.d1.proofs.writing.turn.Reads as turn-reads
+use Rattle.console.proofs.lines.begin.Reads as begin-reads
+use Rattle.console.proofs.lines.next_line.Reads as next-line-reads
+
+abbrev Inv-loop : tie.InvT-loop
+Inv-loop fd name room₀ l₀ on₀ left₀ room l on left = length room ≡ length room₀
+
+abbrev μ-loop : tie.MeasureT-loop
+μ-loop fd name room₀ l₀ on₀ left₀ room l on left = left
+
+begin-requires : tie.Need-begin-requires Inv-loop μ-loop
+begin-requires c κs = search needs
+
+loop-holds : tie.Need-loop-holds Inv-loop μ-loop
+loop-holds c = search needs
+
+next-line-requires : tie.Need-next-line-requires Inv-loop μ-loop
+next-line-requires c κs = search needs
+
+turn-requires : tie.Need-turn-requires Inv-loop μ-loop
+turn-requires c κs = search needs
+
+sub-left : tie.Need-sub-left Inv-loop μ-loop
+sub-left c = search needs
+
+loop-less : tie.Need-loop-less Inv-loop μ-loop
+loop-less c = search needs
+
+loop-again : tie.Need-loop-again Inv-loop μ-loop
+loop-again c = search needs
+
+same-length : tie.Need-same-length Inv-loop μ-loop
+same-length c = search needs
+
+returns : tie.Need-returns Inv-loop μ-loop
+returns c = search needs
+
+same-length-2 : tie.Need-same-length-2 Inv-loop μ-loop
+same-length-2 c = search needs
+
+returns-2 : tie.Need-returns-2 Inv-loop μ-loop
+returns-2 c = search needs
+
+pub all-lines-spec : {M : Type 1} → statement M
+all-lines-spec =
+    tie.close
+    (tie.spec
+    Inv-loop
+    μ-loop
+    begin-requires
+    loop-holds
+    next-line-requires
+    turn-requires
+    sub-left
+    loop-less
+    loop-again
+    same-length
+    returns
+    same-length-2
+    returns-2)

@@ -1,0 +1,78 @@
+// Subframes of a file, a line for each.
+ghost use Rattle.io.specs.Counts.{Counts};
+use crate::fields::frame_of;
+use crate::fields::put_hex;
+use crate::fields::second_of;
+use console::put::put_byte;
+use console::put::put_bytes;
+use console::put::put_field;
+use console::put::put_number;
+use libc::STDOUT_FILENO;
+use verdict::number_of;
+
+// Information bits: FraID, SOW and the bytes.
+fn put_data(room: &mut [u8], d: &[u8]) -> usize
+    ensures { λ r. ⌜ Counts r (now (room .exit)) ⌝ }
+{
+    let a = put_bytes(room, 0, b"frame ");
+    let b = put_number(room, a, frame_of(d) as u64);
+    let c = put_field(room, b, b"sow", second_of(d) as u64);
+    let e = put_bytes(room, c, b" data ");
+    put_hex(room, e, d)
+}
+
+// The line of a subframe.
+fn write_data(d: &[u8]) {
+    let mut room = [0u8; 120];
+    let a = put_data(&mut room, d);
+    let n = put_byte(&mut room, a, 10);
+    io::write_all(STDOUT_FILENO, &room[..n]);
+}
+
+// The line of a refusal.
+fn write_refused(refusal: u8) {
+    let mut room = [0u8; 40];
+    let a = put_bytes(&mut room, 0, b"refused ");
+    let b = put_number(&mut room, a, refusal as u64);
+    let n = put_byte(&mut room, b, 10);
+    io::write_all(STDOUT_FILENO, &room[..n]);
+}
+
+// The line of a subframe's bytes.
+fn show_subframe(s: &[u8]) {
+    let mut d = [0u8; 28];
+    let refusal = number_of(d1_subframes::read_subframe(&mut d, s));
+    if refusal == 0 {
+        write_data(&d);
+    } else {
+        write_refused(refusal);
+    }
+}
+
+// The next subframe of a file: true to go on, false at the end or where the file cannot be read.
+fn turn(fd: i32, name: &[u8], done: u64) -> bool {
+    let mut room = [0u8; 38];
+    let p = console::input::fill(fd, &mut room);
+    if p.failed {
+        console::say::say_errno_where(b"d1", name, b"offset", done);
+        return false;
+    }
+    let n = p.count;
+    if n == 0 {
+        return false;
+    }
+    show_subframe(&room[..n]);
+    true
+}
+
+// All subframes of a file.
+pub(crate) fn show_subframes(fd: i32, name: &[u8]) {
+    let mut on = true;
+    let mut done: u64 = 0;
+    let mut left: u64 = 100000000000000000;
+    while left > 0 && on {
+        on = turn(fd, name, done);
+        done = done % 10000000000000000000 + 38;
+        left -= 1;
+    }
+}
