@@ -30,7 +30,7 @@
  * - nothing else changes the memory during the call.
  *
  * The proofs say, for every input, exactly what is returned and what each lent
- * room then holds: crates/quieuvodan/specs/Boundary.antt. */
+ * room then holds: crates/boundary/specs/Boundary.antt. */
 #ifndef QUIEUVODAN_H
 #define QUIEUVODAN_H
 
