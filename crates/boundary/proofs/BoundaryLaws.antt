@@ -2,9 +2,10 @@
 use mathlib.Core.Path.{_≡_, refl, sym, ap, _∙_}
 use mathlib.Core.Logic.{_≢_}
 use Prim.Native.Nat.{ℕ, _+_, _*_, _-_, _/_, _≤_, _<_}
-use mathlib.Core.Bool.{true, false}
+use mathlib.Core.Bool.{Bool, true, false}
 use mathlib.Core.List.{List, _++_}
 use mathlib.Core.Option.{Option, none, some}
+use lib.Dec.{eqb}
 use lib.ListN.{length, replicate}
 use native.Mathlib.Omega.{arith}
 use borrow.Author.Tests.{eq-eqb, ne-eqb}
@@ -19,7 +20,9 @@ use Rattle.list.specs.declared.row.RowAnswer.the-variants.{Found, Refused}
 use Rattle.flat_forms.specs.Write.{rowBytes, contentsBytes}
 use Rattle.flat_forms.proofs.StoreLaws.{store-two}
 use Rattle.verdict.specs.Verdict.{numberOf, verdictOf}
+use Rattle.verdict.specs.declared.Verdict.{Verdict}
 use Rattle.message.specs.Read.{readMessage}
+use Rattle.message.specs.declared.Reading.{Reading}
 use Rattle.frame.specs.Frame.{readFrame}
 use Rattle.frame.specs.Frame.{isPrn}
 use Rattle.in_force.specs.Bytes.{fresh, takeBytes, framesOf, runBytes, Holds}
@@ -29,7 +32,7 @@ use Rattle.list.specs.Rows.{listIn, rowOfSlotAnswer}
 use Rattle.writing.specs.Write.{writeRefusal, written}
 use Rattle.from_flat.specs.Read.{contentsOf}
 use Rattle.flat_forms.proofs.FlatLaws.{contents-whole, row-whole}
-use Rattle.boundary.specs.Boundary.{sized, isLedger, openAnswer, openRoom, takeRoom, verdictsOf, replayAnswer, replayLedger, replayVerdicts, answerBytes, rowsBytes, rowsAnswer, rowsRoom, rowAnswer, rowRoom, readAnswer, readRoom, frameAnswer, frameRoom, writeAnswer, writeRoom}
+use Rattle.boundary.specs.Boundary.{sized, isLedger, isContents, openAnswer, openRoom, takeRoom, verdictsOf, replayAnswer, replayLedger, replayVerdicts, answerBytes, rowsBytes, rowsAnswer, rowsRoom, rowAnswer, rowRoom, readingAnswer, readingRoom, readAnswer, readRoom, frameAnswer, frameRoom, writeAnswer, writeRoom}
 
 -- ---- rows put one after the other, as a loop's turn has them
 answer-of : (o : Option Row) (rest : List Row) → rowsBytes (toList o ++ rest) ≡ answerBytes (answerOf 0 o) ++ rowsBytes rest
@@ -93,24 +96,51 @@ module _ (s f : List ℕ) where
   unfolding takeRoom
   take-right n m t l a b = (rw (eq-eqb _ _ l) a, rw (eq-eqb _ _ l) b)
 
+-- a reading, whatever is said of its verdict
+module _ (say : Verdict → ℕ) (r : Reading) (room : List ℕ) where
+  pub reading-size : length room ≢ 488 → (39 ≡ readingAnswer say r room) × (room ≡ readingRoom r room)
+  unfolding readingRoom
+  reading-size n = (rw (ne-eqb _ _ n), rw (ne-eqb _ _ n))
+
+  pub reading-right : (n : ℕ) (t : List ℕ) → length room ≡ 488 → n ≡ say (r .verdict) → t ≡ readingRoom r room → (n ≡ readingAnswer say r room) × (t ≡ readingRoom r room)
+  reading-right n t l a b = (rw (eq-eqb _ _ l) a, b)
+
+-- its contents put, or not
+module _ (r : Reading) (room : List ℕ) (long : length room ≡ 488) where
+  pub put-no : numberOf (r .verdict) ≢ 0 → room ≡ readingRoom r room
+  unfolding readingRoom
+  put-no n = rw (eq-eqb _ _ long, ne-eqb _ _ n)
+
+  pub put-yes : (t : List ℕ) → numberOf (r .verdict) ≡ 0 → t ≡ storeAt room 0 (contentsBytes (r .contents)) → t ≡ readingRoom r room
+  unfolding readingRoom
+  put-yes t e b = rw (eq-eqb _ _ long, eq-eqb _ _ e) (b ∙ contents-whole room (r .contents) long)
+
+-- 01, Refusal numbers: lent room stays as it was where the answer is not 0, and holds what is read where it is
+module _ (say : Verdict → ℕ) (same : (v : Verdict) → eqb (say v) 0 ≡ eqb (numberOf v) 0) (r : Reading) (room : List ℕ) where
+  zero-same : (b : Bool) → eqb (sized b (say (r .verdict))) 0 ≡ eqb (sized b (numberOf (r .verdict))) 0
+  zero-same true = same (r .verdict)
+  zero-same false = refl
+
+  pub reading-kept : readingAnswer say r room ≢ 0 → readingRoom r room ≡ room
+  unfolding readingRoom
+  reading-kept n = rw (← zero-same (isContents room), ne-eqb _ _ n)
+
+  pub reading-given : readingAnswer say r room ≡ 0 → readingRoom r room ≡ contentsBytes (r .contents)
+  unfolding readingRoom
+  reading-given e = rw (← zero-same (isContents room), eq-eqb _ _ e)
+
 module _ (m room : List ℕ) where
-  pub read-size : length room ≢ 488 → (39 ≡ readAnswer m room) × (room ≡ readRoom m room)
-  unfolding readAnswer readRoom
-  read-size n = (rw (ne-eqb _ _ n), rw (ne-eqb _ _ n))
+  pub read-kept : readAnswer m room ≢ 0 → readRoom m room ≡ room
+  read-kept = reading-kept numberOf (λ v. refl) (readMessage m) room
 
-  pub read-right : (n : ℕ) (t : List ℕ) → length room ≡ 488 → n ≡ numberOf (readMessage m .verdict) → t ≡ storeAt room 0 (contentsBytes (readMessage m .contents)) →
-      (n ≡ readAnswer m room) × (t ≡ readRoom m room)
-  unfolding readAnswer readRoom
-  read-right n t l a b = (rw (eq-eqb _ _ l) a, rw (eq-eqb _ _ l) (b ∙ contents-whole room (readMessage m .contents) l))
+  pub read-given : readAnswer m room ≡ 0 → readRoom m room ≡ contentsBytes (readMessage m .contents)
+  read-given = reading-given numberOf (λ v. refl) (readMessage m) room
 
-  pub frame-size : length room ≢ 488 → (39 ≡ frameAnswer m room) × (room ≡ frameRoom m room)
-  unfolding frameAnswer frameRoom
-  frame-size n = (rw (ne-eqb _ _ n), rw (ne-eqb _ _ n))
+  pub frame-kept : frameAnswer m room ≢ 0 → frameRoom m room ≡ room
+  frame-kept = reading-kept numberOf (λ v. refl) (readFrame m) room
 
-  pub frame-right : (n : ℕ) (t : List ℕ) → length room ≡ 488 → n ≡ numberOf (readFrame m .verdict) → t ≡ storeAt room 0 (contentsBytes (readFrame m .contents)) →
-      (n ≡ frameAnswer m room) × (t ≡ frameRoom m room)
-  unfolding frameAnswer frameRoom
-  frame-right n t l a b = (rw (eq-eqb _ _ l) a, rw (eq-eqb _ _ l) (b ∙ contents-whole room (readFrame m .contents) l))
+  pub frame-given : frameAnswer m room ≡ 0 → frameRoom m room ≡ contentsBytes (readFrame m .contents)
+  frame-given = reading-given numberOf (λ v. refl) (readFrame m) room
 
 module _ (k room : List ℕ) where
   pub write-size : length k ≢ 488 → (39 ≡ writeAnswer k room) × (room ≡ writeRoom k room)

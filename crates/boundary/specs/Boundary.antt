@@ -8,7 +8,9 @@ use Rattle.bits.specs.Pick.{pick}
 use Rattle.bits.specs.Bytes.{storeAt}
 use Rattle.bits.specs.Table.{table}
 use Rattle.verdict.specs.Verdict.{numberOf, verdictOf}
+use Rattle.verdict.specs.declared.Verdict.{Verdict}
 use Rattle.message.specs.Read.{readMessage}
+use Rattle.message.specs.declared.Reading.{Reading}
 use Rattle.frame.specs.Frame.{readFrame}
 use Rattle.ledger.specs.Open.{openRefusal, openBytes}
 use Rattle.in_force.specs.Bytes.{fresh, takeVerdict, takeBytes, frameAt, framesTo, framesOf, runBytes}
@@ -122,21 +124,29 @@ rowOr (Refused n) room = room
 unfoldable pub rowRoom : List ℕ → List ℕ → ℕ → List ℕ → List ℕ
 rowRoom s is slot room = pick (isRow s room) (rowOr (rowOfSlotAnswer s is slot) room) room
 
--- qvd_read: 39, then the number of the reading
-unfoldable pub readAnswer : List ℕ → List ℕ → ℕ
-readAnswer m room = sized (isContents room) (numberOf (readMessage m .verdict))
+-- 39 where the room is not that of contents, else what is said of the reading's verdict
+abbrev pub readingAnswer : (Verdict → ℕ) → Reading → List ℕ → ℕ
+readingAnswer say r room = sized (isContents room) (say (r .verdict))
 
--- what the message says; all zero where it is refused
-unfoldable pub readRoom : List ℕ → List ℕ → List ℕ
-readRoom m room = pick (isContents room) (contentsBytes (readMessage m .contents)) room
+-- 01, Refusal numbers: the contents that are read; on a refusal the room as it was
+unfoldable pub readingRoom : Reading → List ℕ → List ℕ
+readingRoom r room = pick (eqb (readingAnswer numberOf r room) 0) (contentsBytes (r .contents)) room
+
+-- qvd_read: 39, then the number of the reading
+abbrev pub readAnswer : List ℕ → List ℕ → ℕ
+readAnswer m room = readingAnswer numberOf (readMessage m) room
+
+-- what the message says
+abbrev pub readRoom : List ℕ → List ℕ → List ℕ
+readRoom m room = readingRoom (readMessage m) room
 
 -- qvd_read_frame: 39, then the number of the reading
-unfoldable pub frameAnswer : List ℕ → List ℕ → ℕ
-frameAnswer f room = sized (isContents room) (numberOf (readFrame f .verdict))
+abbrev pub frameAnswer : List ℕ → List ℕ → ℕ
+frameAnswer f room = readingAnswer numberOf (readFrame f) room
 
--- what the frame's message says; all zero where it is refused
-unfoldable pub frameRoom : List ℕ → List ℕ → List ℕ
-frameRoom f room = pick (isContents room) (contentsBytes (readFrame f .contents)) room
+-- what the frame's message says
+abbrev pub frameRoom : List ℕ → List ℕ → List ℕ
+frameRoom f room = readingRoom (readFrame f) room
 
 -- qvd_write: 39, then the number of the writing
 unfoldable pub writeAnswer : List ℕ → List ℕ → ℕ

@@ -6,7 +6,7 @@ ghost use Rattle.bits.specs.Bytes.{storeAt};
 ghost use Rattle.in_force.specs.Bytes.{takeBytes, frameAt, runBytes, framesOf};
 ghost use Rattle.list.specs.Rows.{foundCount, listIn};
 ghost use Rattle.boundary.specs.Detail.{detailOf};
-ghost use Rattle.boundary.specs.Boundary.{openAnswer, openRoom, takeAnswer, detailAnswer, takeRoom, frameNumber, verdictsOf, replayAnswer, replayLedger, replayVerdicts, answerBytes, rowsBytes, rowsAnswer, rowsRoom, rowAnswer, rowRoom, readAnswer, readRoom, frameAnswer, frameRoom, writeAnswer, writeRoom};
+ghost use Rattle.boundary.specs.Boundary.{openAnswer, openRoom, takeAnswer, detailAnswer, takeRoom, frameNumber, verdictsOf, replayAnswer, replayLedger, replayVerdicts, answerBytes, rowsBytes, rowsAnswer, rowsRoom, rowAnswer, rowRoom, readingRoom, readAnswer, readRoom, frameAnswer, frameRoom, writeAnswer, writeRoom};
 use flat_forms::put_contents;
 use flat_forms::put_row;
 use frame::is_prn;
@@ -19,6 +19,7 @@ use list::issues::issues_refusal;
 use list::row::RowAnswer;
 use list::row::slot_row;
 use list::rows::row_of_slot;
+use message::Reading;
 use message::read;
 use verdict::Verdict;
 use verdict::number_of;
@@ -193,7 +194,22 @@ pub extern "C" fn qvd_row(ledger: &[u8], issues: &[u16], slot: u16, row: &mut [u
     }
 }
 
-// The contents of a message. 1, 2, 7 to 13, 39.
+// The contents that are read are put, where the reading is taken; its verdict.
+fn put_reading(room: &mut [u8], r: Reading) -> Verdict
+    requires { ⌜ length (now room) ≡ 488 ⌝ }
+    ensures answer { λ v. ⌜ v ≡ r .verdict ⌝ }
+    ensures bytes { λ v. ⌜ now (room .exit) ≡ readingRoom r (now (room .entry)) ⌝ }
+{
+    let v = r.verdict;
+    if number_of(v) != 0 {
+        return v;
+    }
+    let c = r.contents;
+    put_contents(room, c);
+    v
+}
+
+// The contents of a message; on a refusal the room is as it was. 1, 2, 7 to 13, 39.
 #[no_mangle]
 pub extern "C" fn qvd_read(message: &[u8], contents: &mut [u8]) -> u8
     ensures answer { λ r. ⌜ r ≡ readAnswer (now (message .entry)) (now (contents .entry)) ⌝ }
@@ -202,14 +218,10 @@ pub extern "C" fn qvd_read(message: &[u8], contents: &mut [u8]) -> u8
     if contents.len() != 488 {
         return 39;
     }
-    let r = read(message);
-    let c = r.contents;
-    let v = r.verdict;
-    put_contents(contents, c);
-    number_of(v)
+    number_of(put_reading(contents, read(message)))
 }
 
-// The contents of a frame, read without a ledger. 1, 3, 5 to 13, 39.
+// The contents of a frame, read without a ledger; on a refusal the room is as it was. 1, 3, 5 to 13, 39.
 #[no_mangle]
 pub extern "C" fn qvd_read_frame(frame: &[u8], contents: &mut [u8]) -> u8
     ensures answer { λ r. ⌜ r ≡ frameAnswer (now (frame .entry)) (now (contents .entry)) ⌝ }
@@ -218,11 +230,7 @@ pub extern "C" fn qvd_read_frame(frame: &[u8], contents: &mut [u8]) -> u8
     if contents.len() != 488 {
         return 39;
     }
-    let r = read_frame(frame);
-    let c = r.contents;
-    let v = r.verdict;
-    put_contents(contents, c);
-    number_of(v)
+    number_of(put_reading(contents, read_frame(frame)))
 }
 
 // The message of contents. 1, 8 to 13, 16, 39.

@@ -1,21 +1,21 @@
 use borrow.Author.Needs.{needs}
 use mathlib.Core.Path.{ap, _∙_}
-use Rattle.bits.specs.Bytes.{storeAt}
 use Rattle.verdict.specs.Verdict.{numberOf}
 use Rattle.message.specs.declared.Reading.{Reading}
-use Rattle.flat_forms.specs.Write.{contentsBytes}
-use Rattle.boundary.proofs.BoundaryLaws.{read-size, read-right}
+use Rattle.message.specs.Read.{readMessage}
+use Rattle.boundary.specs.Boundary.{readingRoom}
+use Rattle.boundary.proofs.BoundaryLaws.{reading-size, reading-right}
 use Rattle.quieuvodan.proofs.qvd_read.Statement.{statement}
 use Rattle.quieuvodan.proofs.qvd_read.Tie as tie
 
 returns : tie.Need-returns
-returns c = let a = c .before .before .before .args in read-size (a .message .now) (a .contents .now) (c .if1 .taken)
+returns c = let a = c .before .before .before .args in reading-size numberOf (readMessage (a .message .now)) (a .contents .now) (c .if1 .taken)
 
 read-requires : tie.Need-read-requires
 read-requires c κs = search needs
 
-put-contents-requires : tie.Need-put-contents-requires
-put-contents-requires c κs = search needs
+put-reading-requires : tie.Need-put-reading-requires
+put-reading-requires c κs = search needs
 
 number-of-requires : tie.Need-number-of-requires
 number-of-requires c κs = search needs
@@ -25,13 +25,14 @@ same-length c = search needs
 
 returns-2 : tie.Need-returns-2
 returns-2 c =
-    let a = c .before .before .before .before .before .before .before .before .before .before .args in
-    let r = c .before .before .before .before .before .before .read .ensures in
-    read-right (a .message .now) (a .contents .now) _ _ (c .before .before .before .before .before .before .before .if1 .left)
-    (c .number-of .ensures ∙ ap (λ (x : Reading). numberOf (x .verdict)) r)
-    (c .before .before .before .put-contents .ensures ∙ ap (λ (x : Reading). storeAt (a .contents .now) 0 (contentsBytes (x .contents))) r)
+    let a = c .before .before .before .before .before .before .before .before .before .args in
+    let p = c .before .before .before .put-reading .ensures in
+    let r = c .before .before .before .before .read .ensures in
+    reading-right numberOf (readMessage (a .message .now)) (a .contents .now) _ _ (c .before .before .before .before .before .before .if1 .left)
+    (c .number-of .ensures ∙ ap numberOf (p .0) ∙ ap (λ (x : Reading). numberOf (x .verdict)) r)
+    (p .1 ∙ ap (λ (x : Reading). readingRoom x (a .contents .now)) r)
 
 pub qvd-read-spec : {M : Type 1} → statement M
 qvd-read-spec =
     tie.close
-    (tie.spec returns read-requires put-contents-requires number-of-requires same-length returns-2)
+    (tie.spec returns read-requires put-reading-requires number-of-requires same-length returns-2)

@@ -1,21 +1,21 @@
 use borrow.Author.Needs.{needs}
 use mathlib.Core.Path.{ap, _∙_}
-use Rattle.bits.specs.Bytes.{storeAt}
 use Rattle.verdict.specs.Verdict.{numberOf}
 use Rattle.message.specs.declared.Reading.{Reading}
-use Rattle.flat_forms.specs.Write.{contentsBytes}
-use Rattle.boundary.proofs.BoundaryLaws.{frame-size, frame-right}
+use Rattle.frame.specs.Frame.{readFrame}
+use Rattle.boundary.specs.Boundary.{readingRoom}
+use Rattle.boundary.proofs.BoundaryLaws.{reading-size, reading-right}
 use Rattle.quieuvodan.proofs.qvd_read_frame.Statement.{statement}
 use Rattle.quieuvodan.proofs.qvd_read_frame.Tie as tie
 
 returns : tie.Need-returns
-returns c = let a = c .before .before .before .args in frame-size (a .frame .now) (a .contents .now) (c .if1 .taken)
+returns c = let a = c .before .before .before .args in reading-size numberOf (readFrame (a .frame .now)) (a .contents .now) (c .if1 .taken)
 
 read-frame-requires : tie.Need-read-frame-requires
 read-frame-requires c κs = search needs
 
-put-contents-requires : tie.Need-put-contents-requires
-put-contents-requires c κs = search needs
+put-reading-requires : tie.Need-put-reading-requires
+put-reading-requires c κs = search needs
 
 number-of-requires : tie.Need-number-of-requires
 number-of-requires c κs = search needs
@@ -25,19 +25,14 @@ same-length c = search needs
 
 returns-2 : tie.Need-returns-2
 returns-2 c =
-    let a = c .before .before .before .before .before .before .before .before .before .before .args in
-    let r = c .before .before .before .before .before .before .read-frame .ensures in
-    frame-right (a .frame .now) (a .contents .now) _ _ (c .before .before .before .before .before .before .before .if1 .left)
-    (c .number-of .ensures ∙ ap (λ (x : Reading). numberOf (x .verdict)) r)
-    (c .before .before .before .put-contents .ensures ∙ ap (λ (x : Reading). storeAt (a .contents .now) 0 (contentsBytes (x .contents))) r)
+    let a = c .before .before .before .before .before .before .before .before .before .args in
+    let p = c .before .before .before .put-reading .ensures in
+    let r = c .before .before .before .before .read-frame .ensures in
+    reading-right numberOf (readFrame (a .frame .now)) (a .contents .now) _ _ (c .before .before .before .before .before .before .if1 .left)
+    (c .number-of .ensures ∙ ap numberOf (p .0) ∙ ap (λ (x : Reading). numberOf (x .verdict)) r)
+    (p .1 ∙ ap (λ (x : Reading). readingRoom x (a .contents .now)) r)
 
 pub qvd-read-frame-spec : {M : Type 1} → statement M
 qvd-read-frame-spec =
     tie.close
-    (tie.spec
-    returns
-    read-frame-requires
-    put-contents-requires
-    number-of-requires
-    same-length
-    returns-2)
+    (tie.spec returns read-frame-requires put-reading-requires number-of-requires same-length returns-2)
