@@ -3,7 +3,6 @@ ghost use mathlib.Core.Path.{_≡_};
 ghost use Prim.Native.Nat.{_<_};
 ghost use lib.ListN.{getD};
 ghost use Rattle.bits.specs.Bytes.{storeAt};
-ghost use Rattle.records.specs.Ura.{kindOf, quartersIn};
 ghost use Rattle.records.specs.Signed.{rawHalf};
 ghost use Rattle.flat_forms.specs.Write.{flagsOf, clockBytes, clockRow, orbitBytes, orbitRow, rowsTo, maskHead, clockHead, orbitHead, maskBytes, clocksBytes, orbitsBytes, contentsBytes, systemOf, rowBytes};
 use contents::parts::ClockPart;
@@ -16,7 +15,8 @@ use records::clock::blank_clock;
 use records::orbit::Orbit;
 use records::orbit::blank_orbit;
 use records::slots::System;
-use records::ura::Ura;
+use records::ura::ura_kind;
+use records::ura::ura_quarters;
 
 // A number with its sign as two bytes say it.
 fn raw16(z: i16) -> u16
@@ -39,28 +39,6 @@ fn raw32(z: i32) -> u32
         4294967295 - d
     } else {
         z as u32
-    }
-}
-
-// The kind byte of a URA.
-fn ura_kind(u: Ura) -> u8
-    ensures { λ r. ⌜ r ≡ kindOf u ⌝ }
-{
-    match u {
-        Ura::Unknown => 0,
-        Ura::Quarters(_) => 1,
-        Ura::Above => 2,
-    }
-}
-
-// The quarters of a URA, 0 where it has none.
-fn ura_quarters(u: Ura) -> u32
-    ensures { λ r. ⌜ r ≡ quartersIn u ⌝ }
-{
-    match u {
-        Ura::Unknown => 0,
-        Ura::Quarters(q) => q,
-        Ura::Above => 0,
     }
 }
 

@@ -158,7 +158,7 @@ module _ (c : Contents) where
         orbit-row i 12 (at + 12) h (omega arith) (omega arith),
         orbit-row i 13 (at + 12 + 1) h (omega arith) (omega arith),
         orbit-row i 14 (at + 12 + 2) h (omega arith) (omega arith),
-        orbit-row i 15 (at + 12 + 2 + 1) h (omega arith) (omega arith),
+        orbit-row i 15 (at + 12 + 3) h (omega arith) (omega arith),
       )
       (rw (
         pair-back (o .slot),

@@ -5,7 +5,7 @@ use mathlib.Core.List.{List}
 use lib.Dec.{eqb}
 use lib.ListN.{getD}
 use Rattle.bits.specs.Table.{table}
-use Rattle.lent.specs.Digits.{pairOf, quadOf}
+use Rattle.lent.specs.Digits.{twoAt, fourAt}
 use Rattle.records.specs.Signed.{signedHalf}
 use Rattle.records.specs.Ura.{heldUra}
 use Rattle.records.specs.declared.orbit.Orbit.{Orbit}
@@ -14,14 +14,6 @@ use Rattle.contents.specs.declared.parts.MaskPart.{MaskPart}
 use Rattle.contents.specs.declared.parts.ClockPart.{ClockPart}
 use Rattle.contents.specs.declared.parts.OrbitPart.{OrbitPart}
 use Rattle.contents.specs.declared.parts.Contents.{Contents}
-
--- the number that two bytes from `at` on say
-abbrev pub twoAt : List ℕ → ℕ → ℕ
-twoAt s at = pairOf (getD s at 0) (getD s (at + 1) 0)
-
--- the number that four bytes from `at` on say
-abbrev pub fourAt : List ℕ → ℕ → ℕ
-fourAt s at = quadOf (twoAt s at) (twoAt s (at + 2))
 
 -- a flag of the mask: byte 1 is set, anything else not
 abbrev pub flagAt : List ℕ → ℕ → Bool

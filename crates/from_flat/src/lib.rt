@@ -1,10 +1,8 @@
 // Contents from the bytes that include/quieuvodan.h fixes, for C and Rust; bytes past the end are 0.
 ghost use mathlib.Core.Path.{_≡_};
 ghost use Prim.Native.Nat.{_<_};
-ghost use lib.ListN.{getD};
-ghost use Rattle.records.specs.Ura.{heldUra};
 ghost use Rattle.records.specs.Signed.{signedHalf};
-ghost use Rattle.from_flat.specs.Read.{twoAt, fourAt, flagsAt, clockAt, clocksAt, orbitAt, orbitsAt, maskIn, clocksIn, orbitsIn, contentsOf};
+ghost use Rattle.from_flat.specs.Read.{flagsAt, clockAt, clocksAt, orbitAt, orbitsAt, maskIn, clocksIn, orbitsIn, contentsOf};
 use contents::parts::ClockPart;
 use contents::parts::Contents;
 use contents::parts::MaskPart;
@@ -13,30 +11,7 @@ use records::clock::Clock;
 use records::clock::blank_clock;
 use records::orbit::Orbit;
 use records::orbit::blank_orbit;
-use records::ura::Ura;
-
-// Byte at; 0 past the end.
-fn byte(t: &[u8], at: usize) -> u8
-    ensures { λ r. ⌜ r ≡ getD (now (t .entry)) at 0 ⌝ }
-{
-    if at < t.len() { t[at] } else { 0 }
-}
-
-// The number that two bytes say.
-fn two(t: &[u8], at: usize) -> u16
-    requires { ⌜ at < 1000 ⌝ }
-    ensures { λ r. ⌜ r ≡ twoAt (now (t .entry)) at ⌝ }
-{
-    lent::pair(byte(t, at), byte(t, at + 1))
-}
-
-// The number that four bytes say.
-fn four(t: &[u8], at: usize) -> u32
-    requires { ⌜ at < 900 ⌝ }
-    ensures { λ r. ⌜ r ≡ fourAt (now (t .entry)) at ⌝ }
-{
-    lent::quad(two(t, at), two(t, at + 2))
-}
+use records::ura::held_ura;
 
 // The number with its sign that two bytes say.
 fn signed16(x: u16) -> i16
@@ -50,19 +25,6 @@ fn signed16(x: u16) -> i16
     }
 }
 
-// The URA of a kind byte and quarters.
-fn held_ura(kind: u8, q: u32) -> Ura
-    ensures { λ r. ⌜ r ≡ heldUra kind q ⌝ }
-{
-    if kind == 1 {
-        return Ura::Quarters(q);
-    }
-    if kind == 2 {
-        return Ura::Above;
-    }
-    Ura::Unknown
-}
-
 // The mask's 255 flags.
 fn read_flags(t: &[u8]) -> [bool; 255]
     ensures { λ r. ⌜ r ≡ flagsAt (now (t .entry)) ⌝ }
@@ -70,7 +32,7 @@ fn read_flags(t: &[u8]) -> [bool; 255]
     let mut out = [false; 255];
     let mut i: usize = 0;
     while i < 255 {
-        out[i] = byte(t, 7 + i) == 1;
+        out[i] = lent::byte(t, 7 + i) == 1;
         i += 1;
     }
     out
@@ -81,9 +43,9 @@ fn read_clock(t: &[u8], at: usize) -> Clock
     requires { ⌜ at < 800 ⌝ }
     ensures { λ r. ⌜ r ≡ clockAt (now (t .entry)) at ⌝ }
 {
-    let slot = two(t, at);
-    let corr = byte(t, at + 2);
-    let c0 = signed16(two(t, at + 3));
+    let slot = lent::two(t, at);
+    let corr = lent::byte(t, at + 2);
+    let c0 = signed16(lent::two(t, at + 3));
     Clock { slot, corr, c0 }
 }
 
@@ -105,13 +67,13 @@ fn read_orbit(t: &[u8], at: usize) -> Orbit
     requires { ⌜ at < 800 ⌝ }
     ensures { λ r. ⌜ r ≡ orbitAt (now (t .entry)) at ⌝ }
 {
-    let slot = two(t, at);
-    let iodn = two(t, at + 2);
-    let corr = byte(t, at + 4);
-    let radial = signed16(two(t, at + 5));
-    let along = signed16(two(t, at + 7));
-    let cross = signed16(two(t, at + 9));
-    let ura = held_ura(byte(t, at + 11), four(t, at + 12));
+    let slot = lent::two(t, at);
+    let iodn = lent::two(t, at + 2);
+    let corr = lent::byte(t, at + 4);
+    let radial = signed16(lent::two(t, at + 5));
+    let along = signed16(lent::two(t, at + 7));
+    let cross = signed16(lent::two(t, at + 9));
+    let ura = held_ura(lent::byte(t, at + 11), lent::four(t, at + 12));
     Orbit {
         slot,
         iodn,
@@ -140,9 +102,9 @@ fn read_orbits(t: &[u8]) -> [Orbit; 6]
 fn read_mask(t: &[u8]) -> MaskPart
     ensures { λ r. ⌜ r ≡ maskIn (now (t .entry)) ⌝ }
 {
-    let epoch = four(t, 1);
-    let ssr = byte(t, 5);
-    let iodp = byte(t, 6);
+    let epoch = lent::four(t, 1);
+    let ssr = lent::byte(t, 5);
+    let iodp = lent::byte(t, 6);
     let bits = read_flags(t);
     MaskPart {
         epoch,
@@ -156,11 +118,11 @@ fn read_mask(t: &[u8]) -> MaskPart
 fn read_clock_part(t: &[u8]) -> ClockPart
     ensures { λ r. ⌜ r ≡ clocksIn (now (t .entry)) ⌝ }
 {
-    let epoch = four(t, 262);
-    let ssr = byte(t, 266);
-    let iodp = byte(t, 267);
-    let start = two(t, 268);
-    let count = byte(t, 270);
+    let epoch = lent::four(t, 262);
+    let ssr = lent::byte(t, 266);
+    let iodp = lent::byte(t, 267);
+    let start = lent::two(t, 268);
+    let count = lent::byte(t, 270);
     let clocks = read_clocks(t);
     ClockPart {
         epoch,
@@ -176,9 +138,9 @@ fn read_clock_part(t: &[u8]) -> ClockPart
 fn read_orbit_part(t: &[u8]) -> OrbitPart
     ensures { λ r. ⌜ r ≡ orbitsIn (now (t .entry)) ⌝ }
 {
-    let epoch = four(t, 386);
-    let ssr = byte(t, 390);
-    let count = byte(t, 391);
+    let epoch = lent::four(t, 386);
+    let ssr = lent::byte(t, 390);
+    let count = lent::byte(t, 391);
     let orbits = read_orbits(t);
     OrbitPart {
         epoch,
@@ -192,7 +154,7 @@ fn read_orbit_part(t: &[u8]) -> OrbitPart
 pub fn contents_of(bytes: &[u8]) -> Contents
     ensures { λ r. ⌜ r ≡ contentsOf (now (bytes .entry)) ⌝ }
 {
-    let kind = byte(bytes, 0);
+    let kind = lent::byte(bytes, 0);
     let mask = read_mask(bytes);
     let clock = read_clock_part(bytes);
     let orbit = read_orbit_part(bytes);

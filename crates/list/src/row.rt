@@ -66,10 +66,10 @@ fn do_agree(ssr: u8, o: HeldOrbit, k: HeldClock, issue: u16) -> bool
 }
 
 // The row of a slot that qualifies.
-fn row_from(slot: u8, o: HeldOrbit, k: HeldClock) -> Row
-    ensures { λ r. ⌜ r ≡ rowFrom slot o k ⌝ }
+fn row_from(slot: Slot, o: HeldOrbit, k: HeldClock) -> Row
+    ensures { λ r. ⌜ r ≡ rowFrom (slot .0) o k ⌝ }
 {
-    let s = records::slots::satellite_of(Slot(slot));
+    let s = records::slots::satellite_of(slot);
     let system = s.system;
     let ura = o.ura;
     let radial = records::scale::times16(o.radial);
@@ -77,7 +77,7 @@ fn row_from(slot: u8, o: HeldOrbit, k: HeldClock) -> Row
     let cross = records::scale::times64(o.cross);
     let clock = records::scale::times16(k.c0);
     Row {
-        slot: Slot(slot),
+        slot,
         system,
         number: s.number,
         iodn: o.iodn,
@@ -91,20 +91,20 @@ fn row_from(slot: u8, o: HeldOrbit, k: HeldClock) -> Row
 }
 
 // The row of a slot by what the ledger holds and the slot's issue; refused 18 if it does not qualify.
-pub fn slot_row(ledger: &[u8], slot: u8, issue: u16) -> RowAnswer
-    ensures { λ r. ⌜ r ≡ answerOf 0 (rowHeld (now (ledger .entry)) issue slot) ⌝ }
+pub fn slot_row(ledger: &[u8], slot: Slot, issue: u16) -> RowAnswer
+    ensures { λ r. ⌜ r ≡ answerOf 0 (rowHeld (now (ledger .entry)) issue (slot .0)) ⌝ }
 {
-    if !is_assigned(Slot(slot)) {
+    if !is_assigned(slot) {
         return RowAnswer::Refused(18);
     }
     if !held_mask::has_mask(ledger) {
         return RowAnswer::Refused(18);
     }
-    if !held_mask::has_bit(ledger, Slot(slot)) {
+    if !held_mask::has_bit(ledger, slot) {
         return RowAnswer::Refused(18);
     }
-    let o = held_orbits::get_orbit(ledger, slot);
-    let k = held_clocks::get_clock(ledger, slot);
+    let o = held_orbits::get_orbit(ledger, slot.0);
+    let k = held_clocks::get_clock(ledger, slot.0);
     if !do_agree(held_mask::mask_ssr(ledger), o, k, issue) {
         return RowAnswer::Refused(18);
     }

@@ -4,6 +4,7 @@ ghost use Rattle.list.specs.Rows.{foundCount, countAnswer, rowAtAnswer, 
 use crate::issues::issues_refusal;
 use crate::row::RowAnswer;
 use crate::row::slot_row;
+use records::slots::Slot;
 
 // A number of rows, or one of 01's refusal numbers.
 pub enum Count {
@@ -32,7 +33,8 @@ pub fn row_count(ledger: &[u8], issues: &[u16]) -> Count
     let mut n: u16 = 0;
     let mut i: usize = 0;
     while i < 255 {
-        n += one_if_found(slot_row(ledger, (i + 1) as u8, issues[i]));
+        let slot = (i + 1) as u8;
+        n += one_if_found(slot_row(ledger, Slot(slot), issues[i]));
         i += 1;
     }
     Count::Rows(n)
@@ -52,7 +54,8 @@ pub fn row_at(ledger: &[u8], issues: &[u16], n: u16) -> RowAnswer
     let mut left = n;
     let mut i: usize = 0;
     while i < 255 {
-        let a = slot_row(ledger, (i + 1) as u8, issues[i]);
+        let slot = (i + 1) as u8;
+        let a = slot_row(ledger, Slot(slot), issues[i]);
         i += 1;
         let RowAnswer::Found(row) = a else {
             continue;
@@ -83,5 +86,6 @@ pub fn row_of_slot(ledger: &[u8], issues: &[u16], slot: u16) -> RowAnswer
         return RowAnswer::Refused(why);
     }
     let i = slot as usize - 1;
-    slot_row(ledger, slot as u8, issues[i])
+    let s = slot as u8;
+    slot_row(ledger, Slot(s), issues[i])
 }

@@ -21,6 +21,7 @@ use list::row::slot_row;
 use list::rows::row_of_slot;
 use message::Reading;
 use message::read;
+use records::slots::Slot;
 use verdict::Verdict;
 use verdict::number_of;
 use writing::write;
@@ -145,7 +146,8 @@ fn put_rows(ledger: &[u8], issues: &[u16], rows: &mut [u8])
     let mut n: usize = 0;
     let mut i: usize = 0;
     while i < 255 {
-        let a = slot_row(ledger, (i + 1) as u8, issues[i]);
+        let slot = (i + 1) as u8;
+        let a = slot_row(ledger, Slot(slot), issues[i]);
         n = put_answer(rows, n, a);
         i += 1;
     }

@@ -29,11 +29,11 @@ abbrev μ-loop : tie.MeasureT-loop
 loop-holds : tie.Need-loop-holds Inv-loop μ-loop
 loop-holds c = (omega arith, omega arith, c .before .before .before .pre, refl, refl)
 
-add-slot-row : tie.Need-add-slot-row Inv-loop μ-loop
-add-slot-row c = search needs
+add-slot : tie.Need-add-slot Inv-loop μ-loop
+add-slot c = search needs
 
-cast-slot-row : tie.Need-cast-slot-row Inv-loop μ-loop
-cast-slot-row c = search needs
+cast-slot : tie.Need-cast-slot Inv-loop μ-loop
+cast-slot c = search needs
 
 mul-slot-row : tie.Need-mul-slot-row Inv-loop μ-loop
 mul-slot-row c = search needs
@@ -82,8 +82,8 @@ put-rows-spec =
     Inv-loop
     μ-loop
     loop-holds
-    add-slot-row
-    cast-slot-row
+    add-slot
+    cast-slot
     mul-slot-row
     shared-slice-read-slot-row
     slot-row-requires

@@ -41,11 +41,11 @@ loop-holds c = (
   nth-rows _ 255 1 _,
 )
 
-add-slot-row : tie.Need-add-slot-row Inv-loop μ-loop
-add-slot-row c = search needs
+add-slot : tie.Need-add-slot Inv-loop μ-loop
+add-slot c = search needs
 
-cast-slot-row : tie.Need-cast-slot-row Inv-loop μ-loop
-cast-slot-row c = search needs
+cast-slot : tie.Need-cast-slot Inv-loop μ-loop
+cast-slot c = search needs
 
 mul-slot-row : tie.Need-mul-slot-row Inv-loop μ-loop
 mul-slot-row c = search needs
@@ -117,8 +117,8 @@ row-at-spec =
     returns
     returns-2
     loop-holds
-    add-slot-row
-    cast-slot-row
+    add-slot
+    cast-slot
     mul-slot-row
     shared-slice-read-slot-row
     slot-row-requires

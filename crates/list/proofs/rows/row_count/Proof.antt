@@ -32,11 +32,11 @@ returns c =
 loop-holds : tie.Need-loop-holds Inv-loop μ-loop
 loop-holds c = (search needs, search needs, issues-long _ (sym (c .before .issues-refusal .ensures) ∙ c .if1 .left), omega arith)
 
-add-slot-row : tie.Need-add-slot-row Inv-loop μ-loop
-add-slot-row c = search needs
+add-slot : tie.Need-add-slot Inv-loop μ-loop
+add-slot c = search needs
 
-cast-slot-row : tie.Need-cast-slot-row Inv-loop μ-loop
-cast-slot-row c = search needs
+cast-slot : tie.Need-cast-slot Inv-loop μ-loop
+cast-slot c = search needs
 
 mul-slot-row : tie.Need-mul-slot-row Inv-loop μ-loop
 mul-slot-row c = search needs
@@ -90,8 +90,8 @@ row-count-spec =
     issues-refusal-requires
     returns
     loop-holds
-    add-slot-row
-    cast-slot-row
+    add-slot
+    cast-slot
     mul-slot-row
     shared-slice-read-slot-row
     slot-row-requires

@@ -27,8 +27,8 @@ returns-4 c =
 sub-i : tie.Need-sub-i
 sub-i c = search needs
 
-cast-slot-row : tie.Need-cast-slot-row
-cast-slot-row c = search needs
+cast-s : tie.Need-cast-s
+cast-s c = search needs
 
 mul-slot-row : tie.Need-mul-slot-row
 mul-slot-row c = search needs
@@ -55,7 +55,7 @@ row-of-slot-spec =
     issues-refusal-requires
     returns-4
     sub-i
-    cast-slot-row
+    cast-s
     mul-slot-row
     shared-slice-read-slot-row
     slot-row-requires
