@@ -16,6 +16,7 @@ use Rattle.held_mask.specs.Mask.{sameBits, sameMask}
 use Rattle.places.specs.Keeps.{byPlace, bySlot, maskOf, orbitsOf, clocksOf, placeRefusal, maskRefusal}
 use Rattle.list.specs.Row.{isAssigned, usable, agrees, qualifies, rowOf}
 use Rattle.list_right.specs.Examples.{one, two, four, other, sent, issues, row19, Hold}
+use Rattle.list_right.proofs.FramesLaws.{frames-good}
 use Rattle.list_right.proofs.AcceptedLaws.{maskOver, orbitOver, clockOver, Sound, listOver, list-over, taken-over, refusal-good}
 
 -- 8 to 13 do not apply to any of the contents
@@ -55,6 +56,7 @@ examples = record {
   ends = (refl, refl, refl, refl);
   long = refused-6-3-5;
   ura = (refl, refl);
+  there = frames-good;
   taken = λ h G. taken-over 60 h sent G sound-sent;
   whole = λ h G. list-over 60 h sent issues G sound-sent ∙ whole-over;
   gone = λ h G. (taken-over 60 h (other ∷ sent) G sound-other, list-over 60 h (other ∷ sent) issues G sound-other ∙ gone-over);

@@ -1,3 +1,4 @@
 pub mod ListRight
 pub mod AcceptedLaws
+pub mod FramesLaws
 pub mod Examples

@@ -20,6 +20,7 @@ use Rattle.in_force.specs.Back.{refusalAfter}
 use Rattle.list.specs.declared.row.Row.{Row}
 use Rattle.list_right.specs.InForce.{listInForce}
 use Rattle.list_right.specs.Good.{Good, Taken}
+use Rattle.list_right.specs.Frames.{frames}
 
 -- a mask of the slots given
 abbrev pub maskBits : List ℕ → List Bool
@@ -113,7 +114,9 @@ pub record Hold : Type 0 where
   pub long : (c : Contents) → c .kind ≡ 6 → c .clock .count ≡ 3 → c .orbit .count ≡ 5 → refusalOf c ≡ 9
   -- URA code 19 is 59 quarters; code 62 is 21,866
   pub ura : (uraOf 19 ≡ Quarters 59) × (uraOf 62 ≡ Quarters 21866)
-  -- 01, the whole list: any frames whose shells are good, with these contents, are accepted
+  -- 01, the whole list: there are frames whose shells are good, with these contents
+  pub there : Good 60 frames (four ∷ other ∷ sent)
+  -- any such frames are accepted
   pub taken : (h : List (List ℕ)) → Good 60 h sent → Taken 60 h
   -- and the list is one row
   pub whole : (h : List (List ℕ)) → Good 60 h sent → listInForce 60 h issues ≡ row19 ∷ []

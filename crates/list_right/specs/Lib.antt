@@ -2,3 +2,4 @@ pub mod InForce
 pub mod Right
 pub mod Good
 pub mod Examples
+pub mod Frames
