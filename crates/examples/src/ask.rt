@@ -9,7 +9,7 @@ use list::rows::row_at;
 use list::rows::row_of_slot;
 
 // The broadcast issues of every case: slot 19 is 37, slot 64 is 88, others none.
-pub fn issues() -> [u16; 255] {
+pub(crate) fn issues() -> [u16; 255] {
     let mut out = [65535u16; 255];
     out[18] = 37;
     out[63] = 88;
@@ -85,7 +85,7 @@ fn after_three(file: i32) -> Ledger {
 }
 
 // Asks, and writes the answers.
-pub fn asked() {
+pub(crate) fn asked() {
     let name = b"whole-list";
     let file = os::open_read(name);
     if file < 0 {

@@ -13,14 +13,14 @@ use list::rows::row_count;
 use verdict::number_of;
 
 // A ledger for PRN 60.
-pub fn opened() -> Ledger {
+pub(crate) fn opened() -> Ledger {
     let mut ledger = [0u8; 9440];
     open(&mut ledger, 60);
     ledger
 }
 
 // What the next frame of a file is answered; 255 where the file has ended.
-pub fn take_next(file: i32, ledger: &mut Ledger) -> u64 {
+pub(crate) fn take_next(file: i32, ledger: &mut Ledger) -> u64 {
     let mut frame = [0u8; 125];
     let n = io::read_full(file, &mut frame);
     if n == 0 {
@@ -113,7 +113,7 @@ fn case(name: &[u8], listed: bool) {
 }
 
 // The cases of refusals.
-pub fn refusals() {
+pub(crate) fn refusals() {
     case(b"epochs", false);
     case(b"46-set-bits", false);
     case(b"48-set-bits", false);
@@ -126,7 +126,7 @@ pub fn refusals() {
 }
 
 // The cases of the list: the whole list, the slips that look right, and what a row asks.
-pub fn the_list() {
+pub(crate) fn the_list() {
     case(b"whole-list", true);
     case(b"mask-in-front", true);
     case(b"one-bit", true);

@@ -5,12 +5,12 @@ use records::slots::System;
 use records::ura::Ura;
 
 // Writes bytes.
-pub fn say(text: &[u8]) {
+pub(crate) fn say(text: &[u8]) {
     io::write_all(STDOUT_FILENO, text);
 }
 
 // Writes a number.
-pub fn say_number(n: u64) {
+pub(crate) fn say_number(n: u64) {
     io::print_decimal(STDOUT_FILENO, n);
 }
 
@@ -32,7 +32,7 @@ fn say_signed(x: i32) {
 }
 
 // Writes an accuracy index.
-pub fn say_ura(u: Ura) {
+pub(crate) fn say_ura(u: Ura) {
     match u {
         Ura::Unknown => say(b"unknown"),
         Ura::Quarters(q) => say_number(q as u64),
@@ -70,7 +70,7 @@ fn say_satellite(row: Row) {
 }
 
 // Writes a row, on a new line.
-pub fn say_row(row: Row) {
+pub(crate) fn say_row(row: Row) {
     let ura = row.ura;
     say_satellite(row);
     say_value(b", radial ", row.radial);

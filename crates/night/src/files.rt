@@ -2,7 +2,7 @@
 use libc::STDIN_FILENO;
 
 // Opens a file for reading; negative where it cannot be opened, and it has been said why.
-pub fn open_named(name: &[u8]) -> i32 {
+pub(crate) fn open_named(name: &[u8]) -> i32 {
     if console::words::same(name, b"-") {
         return STDIN_FILENO;
     }
@@ -14,7 +14,7 @@ pub fn open_named(name: &[u8]) -> i32 {
 }
 
 // Closes what open_named opened.
-pub fn close_named(fd: i32) {
+pub(crate) fn close_named(fd: i32) {
     if fd != STDIN_FILENO {
         libc::close(fd);
     }
@@ -46,7 +46,7 @@ fn is_readable(i: usize) -> bool {
 }
 
 // Whether each file from argument i on may be read.
-pub fn all_readable(i: usize, count: usize) -> bool {
+pub(crate) fn all_readable(i: usize, count: usize) -> bool {
     let mut k = i;
     while k < count {
         if !is_readable(k) {

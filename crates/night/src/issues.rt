@@ -221,7 +221,7 @@ fn all_lines(
 }
 
 // The list of issues from the file of argument i; false where something is wrong, and it has been said what.
-pub fn read_issues(i: usize, issues: &mut [u16; 255]) -> bool {
+pub(crate) fn read_issues(i: usize, issues: &mut [u16; 255]) -> bool {
     let mut path = io::buffer();
     let n = os::arg(i, &mut path);
     let fd = open_named(&path[..n]);

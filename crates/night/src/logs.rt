@@ -13,7 +13,7 @@ use verdict::Verdict;
 use verdict::number_of;
 
 // The counts: entry 0 for frames taken, entry n for those refused n, entry 20 for all.
-pub const ALL: usize = 20;
+const ALL: usize = 20;
 
 // One more is counted, but for the largest number.
 fn raise(counts: &mut [u64; 21], i: usize) {
@@ -128,7 +128,7 @@ fn take_log(i: usize, each: bool, ledger: &mut [u8; 9440], counts: &mut [u64; 21
 }
 
 // The logs from argument i on, in order; false where one cannot be read.
-pub fn take_logs(
+pub(crate) fn take_logs(
     i: usize,
     count: usize,
     each: bool,

@@ -7,75 +7,12 @@ use console::put::put_metres;
 use console::put::put_number;
 use console::put::put_two;
 use console::put::put_ura_mm;
+use console::refusals::put_refusal;
 use libc::STDOUT_FILENO;
 use list::row::Row;
 use list::row::RowAnswer;
 use list::rows::Count;
 use records::slots::System;
-
-// Refusals 1 to 6 in words.
-fn put_words_low(room: &mut [u8], at: usize, n: u8) -> usize
-    ensures { λ r. ⌜ Counts r (now (room .exit)) ⌝ }
-{
-    match n {
-        1 => put_bytes(room, at, b"wrong length"),
-        2 => put_bytes(room, at, b"the two bits after the message are not zero"),
-        3 => put_bytes(room, at, b"sync is not EB90"),
-        4 => put_bytes(
-            room,
-            at,
-            b"another PRN than the ledger's, or none of the ten",
-        ),
-        5 => put_bytes(room, at, b"service withdrawn"),
-        _ => put_bytes(room, at, b"parity wrong"),
-    }
-}
-
-// Refusals 7 to 12 in words.
-fn put_words_middle(room: &mut [u8], at: usize, n: u8) -> usize
-    ensures { λ r. ⌜ Counts r (now (room .exit)) ⌝ }
-{
-    match n {
-        7 => put_bytes(room, at, b"check bits wrong"),
-        8 => put_bytes(room, at, b"type not handled"),
-        9 => put_bytes(room, at, b"parts end after bit 462"),
-        10 => put_bytes(room, at, b"epoch above 86399"),
-        11 => put_bytes(room, at, b"slot out of range"),
-        _ => put_bytes(room, at, b"one slot twice"),
-    }
-}
-
-// Refusals 13 to 18 in words.
-fn put_words_high(room: &mut [u8], at: usize, n: u8) -> usize
-    ensures { λ r. ⌜ Counts r (now (room .exit)) ⌝ }
-{
-    match n {
-        13 => put_bytes(room, at, b"mask bit set for a reserved slot"),
-        14 => put_bytes(room, at, b"no mask in force, or its IOD SSR or IODP differ"),
-        15 => put_bytes(room, at, b"no satellite has the sub-type's first place"),
-        16 => put_bytes(
-            room,
-            at,
-            b"a field exceeds its width, or no URA code gives the quarters",
-        ),
-        17 => put_bytes(room, at, b"an issue is neither 0 to 1023 nor none"),
-        18 => put_bytes(room, at, b"no such row"),
-        _ => put_bytes(room, at, b"no satellite has the last place from Slot_S on"),
-    }
-}
-
-// A refusal in words.
-fn put_words(room: &mut [u8], at: usize, n: u8) -> usize
-    ensures { λ r. ⌜ Counts r (now (room .exit)) ⌝ }
-{
-    if n < 7 {
-        return put_words_low(room, at, n);
-    }
-    if n < 13 {
-        return put_words_middle(room, at, n);
-    }
-    put_words_high(room, at, n)
-}
 
 // The line of the PRN.
 fn write_prn(prn: u8) {
@@ -108,7 +45,7 @@ fn write_refusal(number: u8, times: u64) {
     let b = put_number(&mut room, a, number as u64);
     let c = put_next(&mut room, b, times);
     let d = put_byte(&mut room, c, b' ');
-    let e = put_words(&mut room, d, number);
+    let e = put_refusal(&mut room, d, number);
     let n = put_byte(&mut room, e, 10);
     io::write_all(STDOUT_FILENO, &room[..n]);
 }
@@ -249,7 +186,7 @@ fn write_list(ledger: &[u8], issues: &[u16]) {
 }
 
 // The whole report.
-pub fn report(prn: u8, ledger: &[u8; 9440], issues: &[u16; 255], counts: &[u64; 21]) {
+pub(crate) fn report(prn: u8, ledger: &[u8; 9440], issues: &[u16; 255], counts: &[u64; 21]) {
     write_prn(prn);
     write_frames(counts[20], counts[0]);
     write_refusals(counts);

@@ -15,12 +15,12 @@ use records::orbit::blank_orbit;
 use records::ura::Ura;
 
 // A record and whether it was well formed.
-pub struct ClockWord {
+pub(crate) struct ClockWord {
     pub good: bool,
     pub clock: Clock,
 }
 
-pub struct OrbitWord {
+pub(crate) struct OrbitWord {
     pub good: bool,
     pub orbit: Orbit,
 }
@@ -122,8 +122,16 @@ fn is_done(p: Part) -> bool {
     p.good & (p.at == usize::MAX)
 }
 
+// Whether a text may be a record: it begins with a digit or a minus sign.
+pub(crate) fn is_record(w: &[u8]) -> bool {
+    if w.len() == 0 {
+        return false;
+    }
+    w[0] < 58
+}
+
 // A clock record without a slot.
-pub fn bare_clock(w: &[u8]) -> ClockWord {
+pub(crate) fn bare_clock(w: &[u8]) -> ClockWord {
     let a = whole_part(w, first());
     let b = raw_part(w, a);
     let good = is_done(b);
@@ -136,7 +144,7 @@ pub fn bare_clock(w: &[u8]) -> ClockWord {
 }
 
 // A clock record with its slot, or a blank one.
-pub fn slot_clock(w: &[u8]) -> ClockWord {
+pub(crate) fn slot_clock(w: &[u8]) -> ClockWord {
     if same(w, b"-") {
         let clock = blank_clock();
         return ClockWord { good: true, clock };
@@ -221,7 +229,7 @@ fn orbit_from(w: &[u8], p: Part, slot: u32, iodn: u32, corr: u32) -> OrbitWord {
 }
 
 // An orbit record, or a blank one.
-pub fn orbit(w: &[u8]) -> OrbitWord {
+pub(crate) fn orbit(w: &[u8]) -> OrbitWord {
     if same(w, b"-") {
         let orbit = blank_orbit();
         return OrbitWord { good: true, orbit };

@@ -1,7 +1,11 @@
 // pack FILE: the messages of lines as show writes them, 61 bytes each, on standard output.
+mod clocks;
 mod fields;
 mod lines;
+mod orbits;
+mod parts;
 mod place;
+mod slots;
 
 ghost use Rattle.console.specs.Lines.{Inside};
 use console::lines::Lines;

@@ -7,33 +7,60 @@ use console::words::next_word;
 use console::words::number_of;
 
 // The place after the last word read, the number of the next word, and what was expected where that is not it (0: no fault).
-pub struct Place {
+pub(crate) struct Place {
     pub at: usize,
     pub word: u32,
     pub fault: u8,
 }
 
 // A place and the number read before it.
-pub struct Got {
+pub(crate) struct Got {
     pub place: Place,
     pub value: u32,
 }
 
-// What can be expected: keys by their place in the text of put_key, from 1, and these.
-pub const NUMBER: u8 = 21;
+// The keys, by their place in the text of put_key.
+pub(crate) const TYPE: u8 = 1;
 
-pub const CLOCK: u8 = 22;
+pub(crate) const EPOCH: u8 = 2;
 
-pub const SLOT_CLOCK: u8 = 23;
+pub(crate) const SSR: u8 = 3;
 
-pub const ORBIT: u8 = 24;
+pub(crate) const IODP: u8 = 4;
 
-pub const SLOT: u8 = 25;
+pub(crate) const SLOTS: u8 = 5;
 
-pub const LINE_END: u8 = 26;
+pub(crate) const ORBITS: u8 = 6;
+
+pub(crate) const SUB: u8 = 7;
+
+pub(crate) const CLOCKS: u8 = 8;
+
+pub(crate) const CLOCK_EPOCH: u8 = 9;
+
+pub(crate) const CLOCK_SSR: u8 = 10;
+
+pub(crate) const FROM: u8 = 11;
+
+pub(crate) const ORBIT_EPOCH: u8 = 12;
+
+pub(crate) const ORBIT_SSR: u8 = 13;
+
+// What else can be expected.
+pub(crate) const NUMBER: u8 = 21;
+
+pub(crate) const CLOCK: u8 = 22;
+
+pub(crate) const SLOT_CLOCK: u8 = 23;
+
+pub(crate) const ORBIT: u8 = 24;
+
+pub(crate) const SLOT: u8 = 25;
+
+pub(crate) const LINE_END: u8 = 26;
 
 // The start of a line.
-pub fn start() -> Place {
+pub(crate) fn start() -> Place {
     Place {
         at: 0,
         word: 1,
@@ -42,7 +69,7 @@ pub fn start() -> Place {
 }
 
 // The place with a fault.
-pub fn failed(p: Place, fault: u8) -> Place {
+pub(crate) fn failed(p: Place, fault: u8) -> Place {
     Place {
         at: p.at,
         word: p.word,
@@ -51,7 +78,7 @@ pub fn failed(p: Place, fault: u8) -> Place {
 }
 
 // The place after a word that ends at another.
-pub fn passed(p: Place, to: usize) -> Place {
+pub(crate) fn passed(p: Place, to: usize) -> Place {
     let word = if p.word < 1000000 { p.word + 1 } else { p.word };
     Place {
         at: to,
@@ -96,7 +123,7 @@ fn put_key(room: &mut [u8], at: usize, k: u8) -> usize
 }
 
 // What was expected, in words.
-pub fn put_expected(room: &mut [u8], at: usize, fault: u8) -> usize
+pub(crate) fn put_expected(room: &mut [u8], at: usize, fault: u8) -> usize
     ensures { λ r. ⌜ Counts r (now (room .exit)) ⌝ }
 {
     match fault {
@@ -118,7 +145,7 @@ fn is_key(w: &[u8], k: u8) -> bool {
 }
 
 // Whether the next word is a key.
-pub fn next_is(s: &[u8], p: Place, k: u8) -> bool {
+pub(crate) fn next_is(s: &[u8], p: Place, k: u8) -> bool {
     let w = next_word(s, p.at);
     let a = w.from;
     let b = w.to;
@@ -126,7 +153,7 @@ pub fn next_is(s: &[u8], p: Place, k: u8) -> bool {
 }
 
 // A key is passed.
-pub fn key(s: &[u8], p: Place, k: u8) -> Place {
+pub(crate) fn key(s: &[u8], p: Place, k: u8) -> Place {
     if p.fault != 0 {
         return p;
     }
@@ -138,7 +165,7 @@ pub fn key(s: &[u8], p: Place, k: u8) -> Place {
 }
 
 // A number is read.
-pub fn number_word(s: &[u8], p: Place) -> Got {
+fn number_word(s: &[u8], p: Place) -> Got {
     if p.fault != 0 {
         return Got { place: p, value: 0 };
     }
@@ -155,12 +182,23 @@ pub fn number_word(s: &[u8], p: Place) -> Got {
 }
 
 // A key and its number are read.
-pub fn field(s: &[u8], p: Place, k: u8) -> Got {
+pub(crate) fn field(s: &[u8], p: Place, k: u8) -> Got {
     number_word(s, key(s, p, k))
 }
 
+// The place, with a fault where there are fewer records than must be.
+pub(crate) fn at_least(p: Place, count: u8, least: u8, fault: u8) -> Place {
+    if p.fault != 0 {
+        return p;
+    }
+    if count < least {
+        return failed(p, fault);
+    }
+    p
+}
+
 // The line must end.
-pub fn end(s: &[u8], p: Place) -> Place {
+pub(crate) fn end(s: &[u8], p: Place) -> Place {
     if p.fault != 0 {
         return p;
     }
@@ -172,11 +210,11 @@ pub fn end(s: &[u8], p: Place) -> Place {
 }
 
 // A number as a byte; 255 stands for that and all above, which no field holds.
-pub fn byte_of(v: u32) -> u8 {
+pub(crate) fn byte_of(v: u32) -> u8 {
     if v > 255 { 255 } else { v as u8 }
 }
 
 // A number of 16 bits; 65535 stands for that and all above, which no field holds.
-pub fn short_of(v: u32) -> u16 {
+pub(crate) fn short_of(v: u32) -> u16 {
     if v > 65535 { 65535 } else { v as u16 }
 }

@@ -239,7 +239,7 @@ fn put_parts(room: &mut [u8], at: usize, c: Contents) -> usize
 }
 
 // Contents: the type and its parts.
-pub fn put_contents(room: &mut [u8], at: usize, c: Contents) -> usize
+pub(crate) fn put_contents(room: &mut [u8], at: usize, c: Contents) -> usize
     ensures { λ r. ⌜ Counts r (now (room .exit)) ⌝ }
 {
     let a = put_bytes(room, at, b"type ");
