@@ -1,7 +1,7 @@
 -- Laws of the boundary: the lengths in the order of the tests, and each answer by its case.
 use mathlib.Core.Path.{_≡_, refl, sym, ap, _∙_}
 use mathlib.Core.Logic.{_≢_}
-use Prim.Native.Nat.{ℕ, _+_, _*_, _-_, _/_, _≤_, _<_}
+use Prim.Native.Nat.{ℕ, _+_, _*_, _-_, _≤_, _<_}
 use mathlib.Core.Bool.{Bool, true, false}
 use mathlib.Core.List.{List, _++_}
 use mathlib.Core.Option.{Option, none, some}
@@ -25,14 +25,15 @@ use Rattle.message.specs.Read.{readMessage}
 use Rattle.message.specs.declared.Reading.{Reading}
 use Rattle.frame.specs.Frame.{readFrame}
 use Rattle.frame.specs.Frame.{isPrn}
-use Rattle.in_force.specs.Bytes.{fresh, takeBytes, framesOf, runBytes, Holds}
-use Rattle.in_force.proofs.ReplayLaws.{replayed-all}
+use Rattle.held_mask.specs.Size.{size}
+use Rattle.in_force.specs.Bytes.{fresh, takeVerdict, takeBytes}
 use Rattle.list.specs.Issues.{issuesRefusal}
 use Rattle.list.specs.Rows.{listIn, rowOfSlotAnswer}
 use Rattle.writing.specs.Write.{writeRefusal, written}
 use Rattle.from_flat.specs.Read.{contentsOf}
 use Rattle.flat_forms.proofs.FlatLaws.{contents-whole, row-whole}
-use Rattle.boundary.specs.Boundary.{sized, isLedger, isContents, openAnswer, openRoom, takeRoom, verdictsOf, replayAnswer, replayLedger, replayVerdicts, answerBytes, rowsBytes, rowsAnswer, rowsRoom, rowAnswer, rowRoom, readingAnswer, readingRoom, readAnswer, readRoom, frameAnswer, frameRoom, writeAnswer, writeRoom}
+use Rattle.boundary.specs.Size.{contentsSize, rowSize, rowsSize}
+use Rattle.boundary.specs.Boundary.{sized, isContents, openAnswer, openRoom, takeAnswer, takeRoom, answerBytes, rowsBytes, rowsAnswer, rowsRoom, rowAnswer, rowRoom, readingAnswer, readingRoom, readAnswer, readRoom, frameAnswer, frameRoom, writeAnswer, writeRoom}
 
 -- ---- rows put one after the other, as a loop's turn has them
 answer-of : (o : Option Row) (rest : List Row) → rowsBytes (toList o ++ rest) ≡ answerBytes (answerOf 0 o) ++ rowsBytes rest
@@ -40,7 +41,7 @@ unfolding rowsBytes
 answer-of (some r) rest = refl
 answer-of none rest = refl
 
-count-of : (o : Option Row) → 27 * foundCount (answerOf 0 o) ≡ length (answerBytes (answerOf 0 o))
+count-of : (o : Option Row) → rowSize * foundCount (answerOf 0 o) ≡ length (answerBytes (answerOf 0 o))
 count-of (some r) = refl
 count-of none = refl
 
@@ -49,64 +50,64 @@ found-le (Found r) = omega arith
 found-le (Refused n) = omega arith
 
 module _ (f : ℕ → Option Row) (i n k : ℕ) (s t : List ℕ) (a : RowAnswer) where
-  pub rows-turn : i < 255 → a ≡ answerOf 0 (f (i + 1)) → k ≡ n + foundCount a → t ≡ storeAt s (27 * n) (answerBytes a) →
-      storeAt t (27 * k) (rowsBytes (rowsFrom f (255 - (i + 1)) (i + 1 + 1))) ≡ storeAt s (27 * n) (rowsBytes (rowsFrom f (255 - i) (i + 1)))
+  pub rows-turn : i < 255 → a ≡ answerOf 0 (f (i + 1)) → k ≡ n + foundCount a → t ≡ storeAt s (rowSize * n) (answerBytes a) →
+      storeAt t (rowSize * k) (rowsBytes (rowsFrom f (255 - (i + 1)) (i + 1 + 1))) ≡ storeAt s (rowSize * n) (rowsBytes (rowsFrom f (255 - i) (i + 1)))
   rows-turn h e c b =
       let rest = rowsFrom f (255 - (i + 1)) (i + 1 + 1) in
-      let l : 27 * n + length (answerBytes a) ≡ 27 * k = omega (arith, rw (← e) at (count-of (f (i + 1)))) in
+      let l : rowSize * n + length (answerBytes a) ≡ rowSize * k = omega (arith, rw (← e) at (count-of (f (i + 1)))) in
       let p : rowsBytes (rowsFrom f (255 - i) (i + 1)) ≡ answerBytes a ++ rowsBytes rest =
       ap rowsBytes (rows-step f 255 i (i + 1) h) ∙ answer-of (f (i + 1)) rest ∙ ap (λ (x : RowAnswer). answerBytes x ++ rowsBytes rest) (sym e)
       in
-      rw (b, p) (store-two s (27 * n) (27 * k) (answerBytes a) (rowsBytes rest) l)
+      rw (b, p) (store-two s (rowSize * n) (rowSize * k) (answerBytes a) (rowsBytes rest) l)
 
-  pub rows-over : 255 ≤ i → storeAt s (27 * n) (rowsBytes (rowsFrom f (255 - i) (i + 1))) ≡ s
+  pub rows-over : 255 ≤ i → storeAt s (rowSize * n) (rowsBytes (rowsFrom f (255 - i) (i + 1))) ≡ s
   unfolding rowsBytes storeAt
   rows-over h = rw (rows-end f 255 i (i + 1) h)
 
 -- the answer put as row n
-pub answer-none : (s : List ℕ) (n : ℕ) (a : RowAnswer) (m : ℕ) → a ≡ Refused m → (n ≡ n + foundCount a) × (s ≡ storeAt s (27 * n) (answerBytes a))
+pub answer-none : (s : List ℕ) (n : ℕ) (a : RowAnswer) (m : ℕ) → a ≡ Refused m → (n ≡ n + foundCount a) × (s ≡ storeAt s (rowSize * n) (answerBytes a))
 unfolding storeAt
 answer-none s n a m e = rw e (omega arith, refl)
 
-pub answer-some : (s : List ℕ) (n : ℕ) (a : RowAnswer) (r : Row) (t : List ℕ) → a ≡ Found r → t ≡ storeAt s (27 * n) (rowBytes r) →
-    (n + 1 ≡ n + foundCount a) × (t ≡ storeAt s (27 * n) (answerBytes a))
+pub answer-some : (s : List ℕ) (n : ℕ) (a : RowAnswer) (r : Row) (t : List ℕ) → a ≡ Found r → t ≡ storeAt s (rowSize * n) (rowBytes r) →
+    (n + 1 ≡ n + foundCount a) × (t ≡ storeAt s (rowSize * n) (answerBytes a))
 answer-some s n a r t e b = rw e (refl, b)
 
 -- ---- each function by its cases
 module _ (s : List ℕ) (prn : ℕ) where
-  pub open-size : length s ≢ 9440 → (39 ≡ openAnswer s prn) × (s ≡ openRoom s prn)
+  pub open-size : length s ≢ size → (39 ≡ openAnswer s prn) × (s ≡ openRoom s prn)
   unfolding openAnswer openRoom
   open-size n = (rw (ne-eqb _ _ n), rw (ne-eqb _ _ n))
 
-  pub open-no : length s ≡ 9440 → isPrn prn ≡ false → (4 ≡ openAnswer s prn) × (s ≡ openRoom s prn)
+  pub open-no : length s ≡ size → isPrn prn ≡ false → (4 ≡ openAnswer s prn) × (s ≡ openRoom s prn)
   unfolding openAnswer openRoom
   open-no l e = (rw (eq-eqb _ _ l, e), rw (eq-eqb _ _ l, e))
 
-  pub open-yes : (t : List ℕ) → length s ≡ 9440 → isPrn prn ≡ true → t ≡ fresh s prn → (0 ≡ openAnswer s prn) × (t ≡ openRoom s prn)
+  pub open-yes : (t : List ℕ) → length s ≡ size → isPrn prn ≡ true → t ≡ fresh s prn → (0 ≡ openAnswer s prn) × (t ≡ openRoom s prn)
   unfolding openAnswer openRoom
   open-yes t l e b = (rw (eq-eqb _ _ l, e), rw (eq-eqb _ _ l, e) b)
 
-module _ (s f : List ℕ) where
-  -- a frame taken, whatever number the answer is
-  pub take-size : (m : ℕ) → length s ≢ 9440 → (39 ≡ sized (isLedger s) m) × (s ≡ takeRoom s f)
+-- a frame taken, whatever is said of its verdict
+module _ (say : Verdict → ℕ) (s f : List ℕ) where
+  pub take-size : length s ≢ size → (39 ≡ takeAnswer say s f) × (s ≡ takeRoom s f)
   unfolding takeRoom
-  take-size m n = (rw (ne-eqb _ _ n), rw (ne-eqb _ _ n))
+  take-size n = (rw (ne-eqb _ _ n), rw (ne-eqb _ _ n))
 
-  pub take-right : (n m : ℕ) (t : List ℕ) → length s ≡ 9440 → n ≡ m → t ≡ takeBytes s f → (n ≡ sized (isLedger s) m) × (t ≡ takeRoom s f)
+  pub take-right : (n : ℕ) (t : List ℕ) → length s ≡ size → n ≡ say (takeVerdict s f) → t ≡ takeBytes s f → (n ≡ takeAnswer say s f) × (t ≡ takeRoom s f)
   unfolding takeRoom
-  take-right n m t l a b = (rw (eq-eqb _ _ l) a, rw (eq-eqb _ _ l) b)
+  take-right n t l a b = (rw (eq-eqb _ _ l) a, rw (eq-eqb _ _ l) b)
 
 -- a reading, whatever is said of its verdict
 module _ (say : Verdict → ℕ) (r : Reading) (room : List ℕ) where
-  pub reading-size : length room ≢ 488 → (39 ≡ readingAnswer say r room) × (room ≡ readingRoom r room)
+  pub reading-size : length room ≢ contentsSize → (39 ≡ readingAnswer say r room) × (room ≡ readingRoom r room)
   unfolding readingRoom
   reading-size n = (rw (ne-eqb _ _ n), rw (ne-eqb _ _ n))
 
-  pub reading-right : (n : ℕ) (t : List ℕ) → length room ≡ 488 → n ≡ say (r .verdict) → t ≡ readingRoom r room → (n ≡ readingAnswer say r room) × (t ≡ readingRoom r room)
+  pub reading-right : (n : ℕ) (t : List ℕ) → length room ≡ contentsSize → n ≡ say (r .verdict) → t ≡ readingRoom r room → (n ≡ readingAnswer say r room) × (t ≡ readingRoom r room)
   reading-right n t l a b = (rw (eq-eqb _ _ l) a, b)
 
 -- its contents put, or not
-module _ (r : Reading) (room : List ℕ) (long : length room ≡ 488) where
+module _ (r : Reading) (room : List ℕ) (long : length room ≡ contentsSize) where
   pub put-no : numberOf (r .verdict) ≢ 0 → room ≡ readingRoom r room
   unfolding readingRoom
   put-no n = rw (eq-eqb _ _ long, ne-eqb _ _ n)
@@ -136,80 +137,55 @@ module _ (m room : List ℕ) where
   pub read-given : readAnswer m room ≡ 0 → readRoom m room ≡ contentsBytes (readMessage m .contents)
   read-given = reading-given numberOf (λ v. refl) (readMessage m) room
 
-  pub frame-kept : frameAnswer m room ≢ 0 → frameRoom m room ≡ room
-  frame-kept = reading-kept numberOf (λ v. refl) (readFrame m) room
+module _ (say : Verdict → ℕ) (same : (v : Verdict) → eqb (say v) 0 ≡ eqb (numberOf v) 0) (f room : List ℕ) where
+  pub frame-kept : frameAnswer say f room ≢ 0 → frameRoom f room ≡ room
+  frame-kept = reading-kept say same (readFrame f) room
 
-  pub frame-given : frameAnswer m room ≡ 0 → frameRoom m room ≡ contentsBytes (readFrame m .contents)
-  frame-given = reading-given numberOf (λ v. refl) (readFrame m) room
+  pub frame-given : frameAnswer say f room ≡ 0 → frameRoom f room ≡ contentsBytes (readFrame f .contents)
+  frame-given = reading-given say same (readFrame f) room
 
 module _ (k room : List ℕ) where
-  pub write-size : length k ≢ 488 → (39 ≡ writeAnswer k room) × (room ≡ writeRoom k room)
+  pub write-size : length k ≢ contentsSize → (39 ≡ writeAnswer k room) × (room ≡ writeRoom k room)
   unfolding writeAnswer writeRoom
   write-size n = (rw (ne-eqb _ _ n), rw (ne-eqb _ _ n))
 
-  pub write-right : (n : ℕ) (t : List ℕ) → length k ≡ 488 → n ≡ numberOf (verdictOf (writeRefusal room (contentsOf k))) → t ≡ written room (contentsOf k) →
+  pub write-right : (n : ℕ) (t : List ℕ) → length k ≡ contentsSize → n ≡ numberOf (verdictOf (writeRefusal room (contentsOf k))) → t ≡ written room (contentsOf k) →
       (n ≡ writeAnswer k room) × (t ≡ writeRoom k room)
   unfolding writeAnswer writeRoom
   write-right n t l a b = (rw (eq-eqb _ _ l) a, rw (eq-eqb _ _ l) b)
 
 module _ (s is : List ℕ) (slot : ℕ) (room : List ℕ) where
-  pub row-ledger : length s ≢ 9440 → (39 ≡ rowAnswer s is slot room) × (room ≡ rowRoom s is slot room)
+  pub row-ledger : length s ≢ size → (39 ≡ rowAnswer s is slot room) × (room ≡ rowRoom s is slot room)
   unfolding rowAnswer rowRoom
   row-ledger n = (rw (ne-eqb _ _ n), rw (ne-eqb _ _ n))
 
-  pub row-size : length s ≡ 9440 → length room ≢ 27 → (39 ≡ rowAnswer s is slot room) × (room ≡ rowRoom s is slot room)
+  pub row-size : length s ≡ size → length room ≢ rowSize → (39 ≡ rowAnswer s is slot room) × (room ≡ rowRoom s is slot room)
   unfolding rowAnswer rowRoom
   row-size l n = (rw (eq-eqb _ _ l, ne-eqb _ _ n), rw (eq-eqb _ _ l, ne-eqb _ _ n))
 
-  pub row-found : (r : Row) (t : List ℕ) → length s ≡ 9440 → length room ≡ 27 → rowOfSlotAnswer s is slot ≡ Found r → t ≡ storeAt room 0 (rowBytes r) →
+  pub row-found : (r : Row) (t : List ℕ) → length s ≡ size → length room ≡ rowSize → rowOfSlotAnswer s is slot ≡ Found r → t ≡ storeAt room 0 (rowBytes r) →
       (0 ≡ rowAnswer s is slot room) × (t ≡ rowRoom s is slot room)
   unfolding rowAnswer rowRoom
   row-found r t l m e b = (rw (eq-eqb _ _ l, eq-eqb _ _ m, e), rw (eq-eqb _ _ l, eq-eqb _ _ m, e) (b ∙ row-whole room r m))
 
-  pub row-none : (n : ℕ) → length s ≡ 9440 → length room ≡ 27 → rowOfSlotAnswer s is slot ≡ Refused n → (n ≡ rowAnswer s is slot room) × (room ≡ rowRoom s is slot room)
+  pub row-none : (n : ℕ) → length s ≡ size → length room ≡ rowSize → rowOfSlotAnswer s is slot ≡ Refused n → (n ≡ rowAnswer s is slot room) × (room ≡ rowRoom s is slot room)
   unfolding rowAnswer rowRoom
   row-none n l m e = (rw (eq-eqb _ _ l, eq-eqb _ _ m, e), rw (eq-eqb _ _ l, eq-eqb _ _ m, e))
 
 module _ (s is room : List ℕ) where
-  pub rows-ledger : length s ≢ 9440 → (39 ≡ rowsAnswer s is room) × (room ≡ rowsRoom s is room)
+  pub rows-ledger : length s ≢ size → (39 ≡ rowsAnswer s is room) × (room ≡ rowsRoom s is room)
   unfolding rowsAnswer rowsRoom
   rows-ledger n = (rw (ne-eqb _ _ n), rw (ne-eqb _ _ n))
 
-  pub rows-size : length s ≡ 9440 → length room ≢ 4698 → (39 ≡ rowsAnswer s is room) × (room ≡ rowsRoom s is room)
+  pub rows-size : length s ≡ size → length room ≢ rowsSize → (39 ≡ rowsAnswer s is room) × (room ≡ rowsRoom s is room)
   unfolding rowsAnswer rowsRoom
   rows-size l n = (rw (eq-eqb _ _ l, ne-eqb _ _ n), rw (eq-eqb _ _ l, ne-eqb _ _ n))
 
-  pub rows-bad : (n : ℕ) → length s ≡ 9440 → length room ≡ 4698 → n ≡ issuesRefusal is → n ≢ 0 → (n ≡ rowsAnswer s is room) × (room ≡ rowsRoom s is room)
+  pub rows-bad : (n : ℕ) → length s ≡ size → length room ≡ rowsSize → n ≡ issuesRefusal is → n ≢ 0 → (n ≡ rowsAnswer s is room) × (room ≡ rowsRoom s is room)
   unfolding rowsAnswer rowsRoom
   rows-bad n l m e z = (rw (eq-eqb _ _ l, eq-eqb _ _ m) e, rw (eq-eqb _ _ l, eq-eqb _ _ m, ← e, ne-eqb _ _ z))
 
-  pub rows-right : (t : List ℕ) → length s ≡ 9440 → length room ≡ 4698 → issuesRefusal is ≡ 0 → t ≡ storeAt (replicate (length room) 0) 0 (rowsBytes (listIn s is)) →
+  pub rows-right : (t : List ℕ) → length s ≡ size → length room ≡ rowsSize → issuesRefusal is ≡ 0 → t ≡ storeAt (replicate (length room) 0) 0 (rowsBytes (listIn s is)) →
       (0 ≡ rowsAnswer s is room) × (t ≡ rowsRoom s is room)
   unfolding rowsAnswer rowsRoom
   rows-right t l m e b = (rw (eq-eqb _ _ l, eq-eqb _ _ m, e), rw (eq-eqb _ _ l, eq-eqb _ _ m, e) (b ∙ rw m))
-
--- three parts: the answer, the ledger, the verdicts
-module _ (s : List ℕ) (prn : ℕ) (log v : List ℕ) where
-  abbrev pub Same : ℕ → List ℕ → List ℕ → Type 0
-  Same n t u = (n ≡ replayAnswer s prn log v) × ((t ≡ replayLedger s prn log v) × (u ≡ replayVerdicts s prn log v))
-
-  pub replay-ledger : length s ≢ 9440 → Same 39 s v
-  unfolding replayAnswer replayLedger replayVerdicts
-  replay-ledger n = (rw (ne-eqb _ _ n), (rw (ne-eqb _ _ n), rw (ne-eqb _ _ n)))
-
-  pub replay-size : length s ≡ 9440 → length v ≢ (length log + 124) / 125 → Same 39 s v
-  unfolding replayAnswer replayLedger replayVerdicts
-  replay-size l n = (rw (eq-eqb _ _ l, ne-eqb _ _ n), (rw (eq-eqb _ _ l, ne-eqb _ _ n), rw (eq-eqb _ _ l, ne-eqb _ _ n)))
-
-  pub replay-no : length s ≡ 9440 → length v ≡ (length log + 124) / 125 → isPrn prn ≡ false → Same 4 s v
-  unfolding replayAnswer replayLedger replayVerdicts
-  replay-no l m e = (rw (eq-eqb _ _ l, eq-eqb _ _ m, e), (rw (eq-eqb _ _ l, eq-eqb _ _ m, e), rw (eq-eqb _ _ l, eq-eqb _ _ m, e)))
-
-  pub replay-yes : (t u : List ℕ) → length s ≡ 9440 → length v ≡ (length log + 124) / 125 → isPrn prn ≡ true → t ≡ runBytes (fresh s prn) (framesOf log) → u ≡ verdictsOf (fresh s prn) log → Same 0 t u
-  unfolding replayAnswer replayLedger replayVerdicts
-  replay-yes t u l m e b d = (rw (eq-eqb _ _ l, eq-eqb _ _ m, e), (rw (eq-eqb _ _ l, eq-eqb _ _ m, e) b, rw (eq-eqb _ _ l, eq-eqb _ _ m, e) d))
-
-  -- the ledger of a replay that is taken holds exactly what is in force, by looking back
-  pub replay-holds : length s ≡ 9440 → length v ≡ (length log + 124) / 125 → isPrn prn ≡ true → Holds (replayLedger s prn log v) prn (framesOf log)
-  unfolding replayAnswer replayLedger
-  replay-holds l m e = rw (eq-eqb _ _ l, eq-eqb _ _ m, e) (replayed-all s prn log e l (runBytes (fresh s prn) (framesOf log)) refl .holds e)

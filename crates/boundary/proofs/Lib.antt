@@ -1,1 +1,4 @@
+pub mod DetailLaws
 pub mod BoundaryLaws
+pub mod ReplayLaws
+pub mod D1Laws

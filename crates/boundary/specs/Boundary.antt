@@ -12,6 +12,7 @@ use Rattle.verdict.specs.declared.Verdict.{Verdict}
 use Rattle.message.specs.Read.{readMessage}
 use Rattle.message.specs.declared.Reading.{Reading}
 use Rattle.frame.specs.Frame.{readFrame}
+use Rattle.held_mask.specs.Size.{size}
 use Rattle.ledger.specs.Open.{openRefusal, openBytes}
 use Rattle.in_force.specs.Bytes.{fresh, takeVerdict, takeBytes, frameAt, framesTo, framesOf, runBytes}
 use Rattle.list.specs.Issues.{issuesRefusal}
@@ -23,19 +24,19 @@ use Rattle.list.specs.declared.row.RowAnswer.the-variants.{Found, Refused}
 use Rattle.writing.specs.Write.{writeRefusal, written}
 use Rattle.from_flat.specs.Read.{contentsOf}
 use Rattle.flat_forms.specs.Write.{contentsBytes, rowBytes}
-use Rattle.boundary.specs.Detail.{detailOf}
+use Rattle.boundary.specs.Size.{contentsSize, rowSize, rowsSize}
 
 -- 39 where a lent slice has a wrong length, else n
 abbrev pub sized : Bool → ℕ → ℕ
 sized ok n = pick ok n 39
 
--- the bytes of a ledger
+-- as long as a ledger
 abbrev pub isLedger : List ℕ → Bool
-isLedger s = eqb (length s) 9440
+isLedger s = eqb (length s) size
 
--- the bytes of contents
+-- as long as contents
 abbrev pub isContents : List ℕ → Bool
-isContents s = eqb (length s) 488
+isContents s = eqb (length s) contentsSize
 
 -- qvd_open: 39, 4
 unfoldable pub openAnswer : List ℕ → ℕ → ℕ
@@ -45,45 +46,37 @@ openAnswer s prn = sized (isLedger s) (numberOf (verdictOf (openRefusal prn)))
 unfoldable pub openRoom : List ℕ → ℕ → List ℕ
 openRoom s prn = pick (isLedger s) (openBytes s prn) s
 
--- the number that a ledger gives a frame
-abbrev pub frameNumber : List ℕ → List ℕ → ℕ
-frameNumber s f = numberOf (takeVerdict s f)
-
--- qvd_take: 39, then the number that the ledger gives the frame
-abbrev pub takeAnswer : List ℕ → List ℕ → ℕ
-takeAnswer s f = sized (isLedger s) (frameNumber s f)
-
--- qvd_take_detail: 39, then all that the ledger's verdict says
-abbrev pub detailAnswer : List ℕ → List ℕ → ℕ
-detailAnswer s f = sized (isLedger s) (detailOf (takeVerdict s f))
+-- qvd_take, qvd_take_detail: 39, then what is said of the ledger's verdict: its number, or all that it says
+abbrev pub takeAnswer : (Verdict → ℕ) → List ℕ → List ℕ → ℕ
+takeAnswer say s f = sized (isLedger s) (say (takeVerdict s f))
 
 -- the ledger with the frame taken
 unfoldable pub takeRoom : List ℕ → List ℕ → List ℕ
 takeRoom s f = pick (isLedger s) (takeBytes s f) s
 
--- the verdict of frame i of a log, from 0, after those before it
-abbrev pub verdictAt : List ℕ → List ℕ → ℕ → ℕ
-verdictAt s log i = frameNumber (runBytes s (framesTo log i)) (frameAt log i)
+-- what is said of the verdict of frame i of a log, from 0, after those before it
+abbrev pub verdictAt : (Verdict → ℕ) → List ℕ → List ℕ → ℕ → ℕ
+verdictAt say s log i = say (takeVerdict (runBytes s (framesTo log i)) (frameAt log i))
 
--- the verdicts of a log's frames, in order
-unfoldable pub verdictsOf : List ℕ → List ℕ → List ℕ
-verdictsOf s log = table (verdictAt s log) ((length log + 124) / 125)
+-- what is said of the verdicts of a log's frames, in order
+unfoldable pub verdictsOf : (Verdict → ℕ) → List ℕ → List ℕ → List ℕ
+verdictsOf say s log = table (verdictAt say s log) ((length log + 124) / 125)
 
--- the lengths that a replay asks for: a ledger, and a byte for each frame
-abbrev pub isReplay : List ℕ → List ℕ → List ℕ → Bool
-isReplay s log v = isLedger s && eqb (length v) ((length log + 124) / 125)
+-- 39 where n bytes are no ledger, or a log of m bytes has another number of frames than k; 4
+unfoldable pub replayRefusal : ℕ → ℕ → ℕ → ℕ → ℕ
+replayRefusal n prn m k = sized (eqb n size && eqb k ((m + 124) / 125)) (openRefusal prn)
 
--- qvd_replay: 39, 4
-unfoldable pub replayAnswer : List ℕ → ℕ → List ℕ → List ℕ → ℕ
-replayAnswer s prn log v = sized (isReplay s log v) (numberOf (verdictOf (openRefusal prn)))
+-- qvd_replay, qvd_replay_detail: 39, 4
+abbrev pub replayAnswer : List ℕ → ℕ → List ℕ → List ℕ → ℕ
+replayAnswer s prn log v = replayRefusal (length s) prn (length log) (length v)
 
 -- a fresh ledger that has taken the log's frames in order
 unfoldable pub replayLedger : List ℕ → ℕ → List ℕ → List ℕ → List ℕ
 replayLedger s prn log v = pick (eqb (replayAnswer s prn log v) 0) (runBytes (fresh s prn) (framesOf log)) s
 
--- the verdict of each frame
-unfoldable pub replayVerdicts : List ℕ → ℕ → List ℕ → List ℕ → List ℕ
-replayVerdicts s prn log v = pick (eqb (replayAnswer s prn log v) 0) (verdictsOf (fresh s prn) log) v
+-- what is said of the verdict of each frame: its number, or all that it says
+unfoldable pub replayVerdicts : (Verdict → ℕ) → List ℕ → ℕ → List ℕ → List ℕ → List ℕ
+replayVerdicts say s prn log v = pick (eqb (replayAnswer s prn log v) 0) (verdictsOf say (fresh s prn) log) v
 
 -- the bytes of some rows, one after the other
 unfoldable pub rowsBytes : List Row → List ℕ
@@ -95,9 +88,9 @@ abbrev pub answerBytes : RowAnswer → List ℕ
 answerBytes (Found r) = rowBytes r
 answerBytes (Refused n) = []
 
--- the lengths that the rows ask for: a ledger, and room for 174 rows of 27 bytes
+-- the lengths that the rows ask for: a ledger, and room for 174 rows
 abbrev pub isRows : List ℕ → List ℕ → Bool
-isRows s room = isLedger s && eqb (length room) 4698
+isRows s room = isLedger s && eqb (length room) rowsSize
 
 -- qvd_rows: 39, 1, 17
 unfoldable pub rowsAnswer : List ℕ → List ℕ → List ℕ → ℕ
@@ -105,11 +98,11 @@ rowsAnswer s is room = sized (isRows s room) (issuesRefusal is)
 
 -- the rows of the list in rising slot order, then zeros
 unfoldable pub rowsRoom : List ℕ → List ℕ → List ℕ → List ℕ
-rowsRoom s is room = pick (eqb (rowsAnswer s is room) 0) (storeAt (replicate 4698 0) 0 (rowsBytes (listIn s is))) room
+rowsRoom s is room = pick (eqb (rowsAnswer s is room) 0) (storeAt (replicate rowsSize 0) 0 (rowsBytes (listIn s is))) room
 
--- the lengths that a row asks for: a ledger, and 27 bytes
+-- the lengths that a row asks for: a ledger, and room for one
 abbrev pub isRow : List ℕ → List ℕ → Bool
-isRow s room = isLedger s && eqb (length room) 27
+isRow s room = isLedger s && eqb (length room) rowSize
 
 -- qvd_row: 39, 1, 11, 17, 18
 unfoldable pub rowAnswer : List ℕ → List ℕ → ℕ → List ℕ → ℕ
@@ -140,9 +133,9 @@ readAnswer m room = readingAnswer numberOf (readMessage m) room
 abbrev pub readRoom : List ℕ → List ℕ → List ℕ
 readRoom m room = readingRoom (readMessage m) room
 
--- qvd_read_frame: 39, then the number of the reading
-abbrev pub frameAnswer : List ℕ → List ℕ → ℕ
-frameAnswer f room = readingAnswer numberOf (readFrame f) room
+-- qvd_read_frame, qvd_read_frame_detail: 39, then what is said of the reading's verdict: its number, or all that it says
+abbrev pub frameAnswer : (Verdict → ℕ) → List ℕ → List ℕ → ℕ
+frameAnswer say f room = readingAnswer say (readFrame f) room
 
 -- what the frame's message says
 abbrev pub frameRoom : List ℕ → List ℕ → List ℕ

@@ -1,2 +1,4 @@
+pub mod Size
 pub mod Detail
 pub mod Boundary
+pub mod D1

@@ -4,12 +4,12 @@ ghost use Prim.Native.Nat.{_+_, _<_};
 ghost use lib.ListN.{getD, drop, length};
 ghost use Rattle.bits.specs.Some.{anyOf};
 ghost use Rattle.judge.specs.Judge.{isHigh, isSame, isAgain, clockSlots, orbitSlots, isKind, late, badStart, highSlot, twice, reservedBit, tooLong, isNamed, refusalBy, refusalOf, maskRefusalOf, partsRefusalOf};
-use layout::end_of;
-use layout::layout_of;
 use contents::parts::ClockPart;
 use contents::parts::Contents;
 use contents::parts::MaskPart;
 use contents::parts::OrbitPart;
+use layout::end_of;
+use layout::layout_of;
 use records::clock::Clock;
 use records::orbit::Orbit;
 

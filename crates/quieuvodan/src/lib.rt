@@ -1,12 +1,17 @@
 // The library at the C boundary: include/quieuvodan.h. Every function answers 0 or one refusal number; 39 is a lent slice of a wrong length.
 ghost use mathlib.Core.Path.{_≡_};
 ghost use Prim.Native.Nat.{_+_, _*_, _/_, _<_};
-ghost use lib.ListN.{length, replicate};
+ghost use lib.ListN.{length};
 ghost use Rattle.bits.specs.Bytes.{storeAt};
-ghost use Rattle.in_force.specs.Bytes.{takeBytes, frameAt, runBytes, framesOf};
+ghost use Rattle.verdict.specs.Verdict.{numberOf};
+ghost use Rattle.in_force.specs.Bytes.{takeVerdict, takeBytes, frameAt, runBytes, framesOf};
 ghost use Rattle.list.specs.Rows.{foundCount, listIn};
+ghost use Rattle.boundary.specs.Size.{contentsSize, rowSize};
 ghost use Rattle.boundary.specs.Detail.{detailOf};
-ghost use Rattle.boundary.specs.Boundary.{openAnswer, openRoom, takeAnswer, detailAnswer, takeRoom, frameNumber, verdictsOf, replayAnswer, replayLedger, replayVerdicts, answerBytes, rowsBytes, rowsAnswer, rowsRoom, rowAnswer, rowRoom, readingRoom, readAnswer, readRoom, frameAnswer, frameRoom, writeAnswer, writeRoom};
+ghost use Rattle.boundary.specs.D1.{d1ReadAnswer, d1ReadRoom, d1WriteAnswer, d1WriteRoom};
+ghost use Rattle.boundary.specs.Boundary.{openAnswer, openRoom, takeAnswer, takeRoom, verdictsOf, replayRefusal, replayAnswer, replayLedger, replayVerdicts, answerBytes, rowsBytes, rowsAnswer, rowsRoom, rowAnswer, rowRoom, readingRoom, readAnswer, readRoom, frameAnswer, frameRoom, writeAnswer, writeRoom};
+use d1_subframes::read_subframe;
+use d1_subframes::write_subframe;
 use flat_forms::put_contents;
 use flat_forms::put_row;
 use frame::is_prn;
@@ -26,6 +31,18 @@ use verdict::Verdict;
 use verdict::number_of;
 use writing::write;
 
+// The bytes of a ledger.
+const LEDGER_SIZE: usize = 9440;
+
+// The bytes of contents.
+const CONTENTS_SIZE: usize = 488;
+
+// The bytes of a row.
+const ROW_SIZE: usize = 27;
+
+// The bytes of all rows: room for 174.
+const ROWS_SIZE: usize = 174 * ROW_SIZE;
+
 // What a verdict says in one number: its refusal number, then the first failing group and how many fail, or the number of places.
 fn detail(v: Verdict) -> u32
     ensures { λ r. ⌜ r ≡ detailOf v ⌝ }
@@ -44,7 +61,7 @@ pub extern "C" fn qvd_open(ledger: &mut [u8], prn: u8) -> u8
     ensures answer { λ r. ⌜ r ≡ openAnswer (now (ledger .entry)) prn ⌝ }
     ensures bytes { λ r. ⌜ now (ledger .exit) ≡ openRoom (now (ledger .entry)) prn ⌝ }
 {
-    if ledger.len() != 9440 {
+    if ledger.len() != LEDGER_SIZE {
         return 39;
     }
     if !is_prn(prn) {
@@ -57,10 +74,10 @@ pub extern "C" fn qvd_open(ledger: &mut [u8], prn: u8) -> u8
 // A frame is taken into a ledger. 1, 3 to 15, 19, 39.
 #[no_mangle]
 pub extern "C" fn qvd_take(ledger: &mut [u8], frame: &[u8]) -> u8
-    ensures answer { λ r. ⌜ r ≡ takeAnswer (now (ledger .entry)) (now (frame .entry)) ⌝ }
+    ensures answer { λ r. ⌜ r ≡ takeAnswer numberOf (now (ledger .entry)) (now (frame .entry)) ⌝ }
     ensures bytes { λ r. ⌜ now (ledger .exit) ≡ takeRoom (now (ledger .entry)) (now (frame .entry)) ⌝ }
 {
-    if ledger.len() != 9440 {
+    if ledger.len() != LEDGER_SIZE {
         return 39;
     }
     number_of(take_in(ledger, frame))
@@ -69,39 +86,69 @@ pub extern "C" fn qvd_take(ledger: &mut [u8], frame: &[u8]) -> u8
 // A frame is taken into a ledger, and the answer also says what the numbers 6 and 19 carry. 1, 3 to 15, 19, 39.
 #[no_mangle]
 pub extern "C" fn qvd_take_detail(ledger: &mut [u8], frame: &[u8]) -> u32
-    ensures answer { λ r. ⌜ r ≡ detailAnswer (now (ledger .entry)) (now (frame .entry)) ⌝ }
+    ensures answer { λ r. ⌜ r ≡ takeAnswer detailOf (now (ledger .entry)) (now (frame .entry)) ⌝ }
     ensures bytes { λ r. ⌜ now (ledger .exit) ≡ takeRoom (now (ledger .entry)) (now (frame .entry)) ⌝ }
 {
-    if ledger.len() != 9440 {
+    if ledger.len() != LEDGER_SIZE {
         return 39;
     }
     detail(take_in(ledger, frame))
 }
 
-// Frame i of a log, from 0, is taken.
-fn take_nth(t: &mut [u8], log: &[u8], i: usize) -> u8
+// Frame i of a log, from 0, is taken; its verdict.
+fn take_nth(t: &mut [u8], log: &[u8], i: usize) -> Verdict
     requires { ⌜ i < (length (now log) + 124) / 125 ⌝ }
-    ensures answer { λ r. ⌜ r ≡ frameNumber (now (t .entry)) (frameAt (now (log .entry)) i) ⌝ }
+    ensures answer { λ r. ⌜ r ≡ takeVerdict (now (t .entry)) (frameAt (now (log .entry)) i) ⌝ }
     ensures bytes { λ r. ⌜ now (t .exit) ≡ takeBytes (now (t .entry)) (frameAt (now (log .entry)) i) ⌝ }
 {
     let a = 125 * i;
     let left = log.len() - a;
     let e = if left < 125 { log.len() } else { a + 125 };
-    number_of(take_in(t, &log[a..e]))
+    take_in(t, &log[a..e])
 }
 
-// The frames of a log are taken in order, and the verdict of each is kept.
+// The frames of a log are taken in order, and the number of each verdict is kept.
 fn take_all(t: &mut [u8], log: &[u8], verdicts: &mut [u8])
     requires { ⌜ length (now verdicts) ≡ (length (now log) + 124) / 125 ⌝ }
     ensures bytes { λ r. ⌜ now (t .exit) ≡ runBytes (now (t .entry)) (framesOf (now (log .entry))) ⌝ }
-    ensures answers { λ r. ⌜ now (verdicts .exit) ≡ verdictsOf (now (t .entry)) (now (log .entry)) ⌝ }
+    ensures answers { λ r. ⌜ now (verdicts .exit) ≡ verdictsOf numberOf (now (t .entry)) (now (log .entry)) ⌝ }
 {
     let mut i: usize = 0;
     while i < verdicts.len() {
-        let n = take_nth(t, log, i);
+        let n = number_of(take_nth(t, log, i));
         verdicts[i] = n;
         i += 1;
     }
+}
+
+// The frames of a log are taken in order, and all that each verdict says is kept.
+fn take_all_detail(t: &mut [u8], log: &[u8], details: &mut [u32])
+    requires { ⌜ length (now details) ≡ (length (now log) + 124) / 125 ⌝ }
+    ensures bytes { λ r. ⌜ now (t .exit) ≡ runBytes (now (t .entry)) (framesOf (now (log .entry))) ⌝ }
+    ensures answers { λ r. ⌜ now (details .exit) ≡ verdictsOf detailOf (now (t .entry)) (now (log .entry)) ⌝ }
+{
+    let mut i: usize = 0;
+    while i < details.len() {
+        let n = detail(take_nth(t, log, i));
+        details[i] = n;
+        i += 1;
+    }
+}
+
+// Why a replay is refused, by the lengths of what is lent and the PRN. 4, 39; 0 if it is not.
+fn replay_refusal(ledger: usize, prn: u8, log: usize, verdicts: usize) -> u8
+    ensures { λ r. ⌜ r ≡ replayRefusal ledger prn log verdicts ⌝ }
+{
+    if ledger != LEDGER_SIZE {
+        return 39;
+    }
+    if verdicts != frame_count(log) {
+        return 39;
+    }
+    if !is_prn(prn) {
+        return 4;
+    }
+    0
 }
 
 // A fresh ledger for a PRN takes all frames of a log, one verdict byte a frame; a rest at the end is one more frame. 4, 39.
@@ -109,19 +156,35 @@ fn take_all(t: &mut [u8], log: &[u8], verdicts: &mut [u8])
 pub extern "C" fn qvd_replay(ledger: &mut [u8], prn: u8, log: &[u8], verdicts: &mut [u8]) -> u8
     ensures answer { λ r. ⌜ r ≡ replayAnswer (now (ledger .entry)) prn (now (log .entry)) (now (verdicts .entry)) ⌝ }
     ensures bytes { λ r. ⌜ now (ledger .exit) ≡ replayLedger (now (ledger .entry)) prn (now (log .entry)) (now (verdicts .entry)) ⌝ }
-    ensures answers { λ r. ⌜ now (verdicts .exit) ≡ replayVerdicts (now (ledger .entry)) prn (now (log .entry)) (now (verdicts .entry)) ⌝ }
+    ensures answers { λ r. ⌜ now (verdicts .exit) ≡ replayVerdicts numberOf (now (ledger .entry)) prn (now (log .entry)) (now (verdicts .entry)) ⌝ }
 {
-    if ledger.len() != 9440 {
-        return 39;
-    }
-    if verdicts.len() != frame_count(log.len()) {
-        return 39;
-    }
-    if !is_prn(prn) {
-        return 4;
+    let why = replay_refusal(ledger.len(), prn, log.len(), verdicts.len());
+    if why != 0 {
+        return why;
     }
     make_fresh(ledger, prn);
     take_all(ledger, log, verdicts);
+    0
+}
+
+// A fresh ledger for a PRN takes all frames of a log, and each number also says what 6 and 19 carry. 4, 39.
+#[no_mangle]
+pub extern "C" fn qvd_replay_detail(
+    ledger: &mut [u8],
+    prn: u8,
+    log: &[u8],
+    details: &mut [u32],
+) -> u8
+    ensures answer { λ r. ⌜ r ≡ replayAnswer (now (ledger .entry)) prn (now (log .entry)) (now (details .entry)) ⌝ }
+    ensures bytes { λ r. ⌜ now (ledger .exit) ≡ replayLedger (now (ledger .entry)) prn (now (log .entry)) (now (details .entry)) ⌝ }
+    ensures answers { λ r. ⌜ now (details .exit) ≡ replayVerdicts detailOf (now (ledger .entry)) prn (now (log .entry)) (now (details .entry)) ⌝ }
+{
+    let why = replay_refusal(ledger.len(), prn, log.len(), details.len());
+    if why != 0 {
+        return why;
+    }
+    make_fresh(ledger, prn);
+    take_all_detail(ledger, log, details);
     0
 }
 
@@ -129,12 +192,12 @@ pub extern "C" fn qvd_replay(ledger: &mut [u8], prn: u8, log: &[u8], verdicts: &
 fn put_answer(rows: &mut [u8], n: usize, a: RowAnswer) -> usize
     requires { ⌜ n < 255 ⌝ }
     ensures count { λ r. ⌜ r ≡ n + foundCount a ⌝ }
-    ensures bytes { λ r. ⌜ now (rows .exit) ≡ storeAt (now (rows .entry)) (27 * n) (answerBytes a) ⌝ }
+    ensures bytes { λ r. ⌜ now (rows .exit) ≡ storeAt (now (rows .entry)) (rowSize * n) (answerBytes a) ⌝ }
 {
     let RowAnswer::Found(r) = a else {
         return n;
     };
-    put_row(rows, 27 * n, r);
+    put_row(rows, ROW_SIZE * n, r);
     n + 1
 }
 
@@ -159,10 +222,10 @@ pub extern "C" fn qvd_rows(ledger: &[u8], issues: &[u16], rows: &mut [u8]) -> u8
     ensures answer { λ r. ⌜ r ≡ rowsAnswer (now (ledger .entry)) (now (issues .entry)) (now (rows .entry)) ⌝ }
     ensures bytes { λ r. ⌜ now (rows .exit) ≡ rowsRoom (now (ledger .entry)) (now (issues .entry)) (now (rows .entry)) ⌝ }
 {
-    if ledger.len() != 9440 {
+    if ledger.len() != LEDGER_SIZE {
         return 39;
     }
-    if rows.len() != 4698 {
+    if rows.len() != ROWS_SIZE {
         return 39;
     }
     let why = issues_refusal(issues);
@@ -180,10 +243,10 @@ pub extern "C" fn qvd_row(ledger: &[u8], issues: &[u16], slot: u16, row: &mut [u
     ensures answer { λ r. ⌜ r ≡ rowAnswer (now (ledger .entry)) (now (issues .entry)) slot (now (row .entry)) ⌝ }
     ensures bytes { λ r. ⌜ now (row .exit) ≡ rowRoom (now (ledger .entry)) (now (issues .entry)) slot (now (row .entry)) ⌝ }
 {
-    if ledger.len() != 9440 {
+    if ledger.len() != LEDGER_SIZE {
         return 39;
     }
-    if row.len() != 27 {
+    if row.len() != ROW_SIZE {
         return 39;
     }
     let a = row_of_slot(ledger, issues, slot);
@@ -198,7 +261,7 @@ pub extern "C" fn qvd_row(ledger: &[u8], issues: &[u16], slot: u16, row: &mut [u
 
 // The contents that are read are put, where the reading is taken; its verdict.
 fn put_reading(room: &mut [u8], r: Reading) -> Verdict
-    requires { ⌜ length (now room) ≡ 488 ⌝ }
+    requires { ⌜ length (now room) ≡ contentsSize ⌝ }
     ensures answer { λ v. ⌜ v ≡ r .verdict ⌝ }
     ensures bytes { λ v. ⌜ now (room .exit) ≡ readingRoom r (now (room .entry)) ⌝ }
 {
@@ -217,7 +280,7 @@ pub extern "C" fn qvd_read(message: &[u8], contents: &mut [u8]) -> u8
     ensures answer { λ r. ⌜ r ≡ readAnswer (now (message .entry)) (now (contents .entry)) ⌝ }
     ensures bytes { λ r. ⌜ now (contents .exit) ≡ readRoom (now (message .entry)) (now (contents .entry)) ⌝ }
 {
-    if contents.len() != 488 {
+    if contents.len() != CONTENTS_SIZE {
         return 39;
     }
     number_of(put_reading(contents, read(message)))
@@ -226,13 +289,25 @@ pub extern "C" fn qvd_read(message: &[u8], contents: &mut [u8]) -> u8
 // The contents of a frame, read without a ledger; on a refusal the room is as it was. 1, 3, 5 to 13, 39.
 #[no_mangle]
 pub extern "C" fn qvd_read_frame(frame: &[u8], contents: &mut [u8]) -> u8
-    ensures answer { λ r. ⌜ r ≡ frameAnswer (now (frame .entry)) (now (contents .entry)) ⌝ }
+    ensures answer { λ r. ⌜ r ≡ frameAnswer numberOf (now (frame .entry)) (now (contents .entry)) ⌝ }
     ensures bytes { λ r. ⌜ now (contents .exit) ≡ frameRoom (now (frame .entry)) (now (contents .entry)) ⌝ }
 {
-    if contents.len() != 488 {
+    if contents.len() != CONTENTS_SIZE {
         return 39;
     }
     number_of(put_reading(contents, read_frame(frame)))
+}
+
+// The contents of a frame as qvd_read_frame gives them, and the answer also says what the number 6 carries. 1, 3, 5 to 13, 39.
+#[no_mangle]
+pub extern "C" fn qvd_read_frame_detail(frame: &[u8], contents: &mut [u8]) -> u32
+    ensures answer { λ r. ⌜ r ≡ frameAnswer detailOf (now (frame .entry)) (now (contents .entry)) ⌝ }
+    ensures bytes { λ r. ⌜ now (contents .exit) ≡ frameRoom (now (frame .entry)) (now (contents .entry)) ⌝ }
+{
+    if contents.len() != CONTENTS_SIZE {
+        return 39;
+    }
+    detail(put_reading(contents, read_frame(frame)))
 }
 
 // The message of contents. 1, 8 to 13, 16, 39.
@@ -241,8 +316,26 @@ pub extern "C" fn qvd_write(contents: &[u8], room: &mut [u8]) -> u8
     ensures answer { λ r. ⌜ r ≡ writeAnswer (now (contents .entry)) (now (room .entry)) ⌝ }
     ensures bytes { λ r. ⌜ now (room .exit) ≡ writeRoom (now (contents .entry)) (now (room .entry)) ⌝ }
 {
-    if contents.len() != 488 {
+    if contents.len() != CONTENTS_SIZE {
         return 39;
     }
     number_of(write(room, contents_of(contents)))
+}
+
+// The 28 bytes of a subframe's information bits, its code words corrected; on a refusal the room is as it was. 31 to 34.
+#[no_mangle]
+pub extern "C" fn qvd_d1_read(subframe: &[u8], information: &mut [u8]) -> u8
+    ensures answer { λ r. ⌜ r ≡ d1ReadAnswer (now (subframe .entry)) (now (information .entry)) ⌝ }
+    ensures bytes { λ r. ⌜ now (information .exit) ≡ d1ReadRoom (now (subframe .entry)) (now (information .entry)) ⌝ }
+{
+    number_of(read_subframe(information, subframe))
+}
+
+// The 38 bytes of the subframe of 28 bytes of information bits; on a refusal the room is as it was. 31 to 34.
+#[no_mangle]
+pub extern "C" fn qvd_d1_write(information: &[u8], subframe: &mut [u8]) -> u8
+    ensures answer { λ r. ⌜ r ≡ d1WriteAnswer (now (information .entry)) (now (subframe .entry)) ⌝ }
+    ensures bytes { λ r. ⌜ now (subframe .exit) ≡ d1WriteRoom (now (information .entry)) (now (subframe .entry)) ⌝ }
+{
+    number_of(write_subframe(subframe, information))
 }

@@ -10,6 +10,7 @@ use Rattle.list.specs.Row.{answerOf}
 use Rattle.list.specs.Rows.{rowIn, listIn}
 use Rattle.list.specs.declared.row.RowAnswer.the-variants.{Refused}
 use Rattle.list.proofs.AnswerLaws.{row-next}
+use Rattle.boundary.specs.Size.{rowSize}
 use Rattle.boundary.specs.Boundary.{rowsBytes}
 use Rattle.boundary.proofs.BoundaryLaws.{found-le, rows-turn, rows-over}
 use Rattle.quieuvodan.proofs.put_rows.Statement.{statement}
@@ -21,7 +22,7 @@ Inv-loop ledger issues rows₀ n₀ i₀ rows n i =
     × (n ≤ i)
     × (length issues ≡ 255)
     × (length rows ≡ length rows₀)
-    × (storeAt rows (27 * n) (rowsBytes (rowsFrom (rowIn ledger issues) (255 - i) (i + 1))) ≡ storeAt rows₀ 0 (rowsBytes (listIn ledger issues)))
+    × (storeAt rows (rowSize * n) (rowsBytes (rowsFrom (rowIn ledger issues) (255 - i) (i + 1))) ≡ storeAt rows₀ 0 (rowsBytes (listIn ledger issues)))
 
 abbrev μ-loop : tie.MeasureT-loop
 μ-loop ledger issues rows₀ n₀ i₀ rows n i = 255 - i

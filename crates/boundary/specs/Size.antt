@@ -1,0 +1,14 @@
+-- include/quieuvodan.h: how long the forms at the C boundary are; a ledger's length is held_mask's `size`.
+use Prim.Native.Nat.{ℕ, _*_}
+
+-- the bytes of contents
+abbrev pub contentsSize : ℕ
+contentsSize = 488
+
+-- the bytes of a row
+abbrev pub rowSize : ℕ
+rowSize = 27
+
+-- the bytes of 174 rows, as many as a mask has slots that are not reserved
+abbrev pub rowsSize : ℕ
+rowsSize = 174 * rowSize
