@@ -1,6 +1,6 @@
 use borrow.Author.Needs.{needs}
 use native.Mathlib.Omega.{arith}
-use Prim.Native.Nat.{_+_, _*_, _/_}
+use Prim.Native.Nat.{_^_, _<_}
 use Rattle.bits.proofs.FieldLaws.{field-lt}
 use Rattle.bits.proofs.WindowLaws.{window, eight-bytes}
 use Rattle.bits.proofs.get.Statement.{statement}
@@ -19,12 +19,15 @@ four-requires-2 : tie.Need-four-requires-2
 four-requires-2 c κs = search needs
 
 mul-part : tie.Need-mul-part
-mul-part c = let a = c .before .before .before .before .before .before .args in omega (arith, c .before .four .ensures, field-lt (a .s .now) (8 * (a .at / 8)) 32)
+mul-part c =
+    let h : c .before .four .result < 2 ^ 32 = rw (c .before .four .ensures) (field-lt _ _ 32) in
+    omega arith
 
 add-part : tie.Need-add-part
 add-part c =
-    let a = c .before .before .before .before .before .before .args in
-    omega (arith, c .before .four .ensures, c .four2 .ensures, field-lt (a .s .now) (8 * (a .at / 8)) 32, field-lt (a .s .now) (8 * (a .at / 8 + 4)) 32)
+    let h : c .before .four .result < 2 ^ 32 = rw (c .before .four .ensures) (field-lt _ _ 32) in
+    let l : c .four2 .result < 2 ^ 32 = rw (c .four2 .ensures) (field-lt _ _ 32) in
+    omega arith
 
 part-requires : tie.Need-part-requires
 part-requires c κs = search needs
