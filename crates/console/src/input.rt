@@ -10,7 +10,7 @@ pub struct Piece {
     pub failed: bool,
 }
 
-// One read into the room from a place on; the count is that of the bytes before the new end.
+// One read into the room from a position on; the count is that of the bytes before the new end.
 fn read_after(fd: i32, room: &mut [u8], from: usize) -> Piece
     requires { ⌜ from ≤ length (now room) ⌝ }
     ensures { λ r. ⌜ Counts (r .count) (now (room .exit)) ⌝ }
@@ -29,7 +29,7 @@ fn read_after(fd: i32, room: &mut [u8], from: usize) -> Piece
     }
 }
 
-// One read into the room from a place on, or from its end where the place lies past that; nothing comes into a full room.
+// One read into the room from a position on, or from its end where the position lies past that; nothing comes into a full room.
 pub fn read_on(fd: i32, room: &mut [u8], from: usize) -> Piece
     ensures { λ r. ⌜ Counts (r .count) (now (room .exit)) ⌝ }
 {

@@ -1,10 +1,11 @@
 // Lines of an input, one by one, in a lent room.
+ghost use mathlib.Core.Path.{_≡_};
 ghost use Prim.Native.Nat.{_≤_, _<_};
 ghost use lib.ListN.{length};
 ghost use Rattle.console.specs.Lines.{Inside};
 use crate::input::read_on;
 
-// A line stands in the room; the input has ended; a line is longer than the room; a read failed.
+// A line stands in the room; the input has ended; a line is longer than 65536 bytes, or than the room; a read failed.
 pub enum Step {
     Line,
     End,
@@ -12,7 +13,7 @@ pub enum Step {
     Failed,
 }
 
-// The line is room[start..end], without its line end; what was read after it is room[next..to]. Lines are counted from 1.
+// The line is room[start..end], without its line end (LF, or CR LF); what was read after it is room[next..to]. Lines are counted from 1.
 pub struct Lines {
     pub step: Step,
     pub start: usize,
@@ -55,7 +56,7 @@ fn raised(n: u64) -> u64 {
     if n == u64::MAX { n } else { n + 1 }
 }
 
-// The place of the first line end between two places; the second place where there is none.
+// The position of the first line end between two positions; the second position where there is none.
 fn line_end(room: &[u8], from: usize, to: usize) -> usize
     requires { ⌜ (from ≤ to) × (to ≤ length (now room)) ⌝ }
     ensures { λ r. ⌜ (from ≤ r) × (r ≤ to) ⌝ }
@@ -70,7 +71,7 @@ fn line_end(room: &[u8], from: usize, to: usize) -> usize
     to
 }
 
-// What stands between two places is moved to the room's start; the answer is its length.
+// What stands between two positions is moved to the room's start; the answer is its length.
 fn moved(room: &mut [u8], from: usize, to: usize) -> usize
     requires { ⌜ (from ≤ to) × (to ≤ length (now room)) ⌝ }
     ensures { λ r. ⌜ r ≤ length (now (room .exit)) ⌝ }
@@ -139,19 +140,59 @@ fn read_line(fd: i32, room: &mut [u8], first: usize) -> Lines
     without(Step::Long)
 }
 
-// The same with the number of a line.
-fn numbered(l: Lines, number: u64) -> Lines
-    ensures { λ r. ⌜ (r .start ≤ l .start) × (l .end ≤ r .end) × (r .end ≤ l .end) ⌝ }
+// The end of a line before the carriage return that it may end with.
+fn before_return(room: &[u8], start: usize, end: usize) -> usize
+    requires { ⌜ (start ≤ end) × (end ≤ length (now room)) ⌝ }
+    ensures { λ r. ⌜ (start ≤ r) × (r ≤ end) ⌝ }
 {
+    if start < end {
+        if room[end - 1] == 13 {
+            return end - 1;
+        }
+    }
+    end
+}
+
+// A line with its number, and without the carriage return that it may end with; none where it is then longer than 65536 bytes.
+fn numbered(room: &[u8], l: Lines, number: u64) -> Lines
+    requires { ⌜ Inside l (now room) ⌝ }
+    ensures { λ r. ⌜ Inside r (now (room .entry)) ⌝ }
+{
+    let start = l.start;
+    let end = before_return(room, start, l.end);
+    if end - start > 65536 {
+        return Lines {
+            step: Step::Long,
+            start: 0,
+            end: 0,
+            next: 0,
+            to: 0,
+            number,
+        };
+    }
     let step = l.step;
     Lines {
         step,
-        start: l.start,
-        end: l.end,
+        start,
+        end,
         next: l.next,
         to: l.to,
         number,
     }
+}
+
+// The next line, without its number.
+fn line_after(fd: i32, room: &mut [u8], l: Lines) -> Lines
+    ensures { λ r. ⌜ Inside r (now (room .exit)) ⌝ }
+{
+    let to = least(l.to, room.len());
+    let next = least(l.next, to);
+    let e = line_end(room, next, to);
+    if e < to {
+        return found(next, e, to);
+    }
+    let have = moved(room, next, to);
+    read_line(fd, room, have)
 }
 
 // The next line, where the one before it stands as l says.
@@ -159,12 +200,13 @@ pub fn next_line(fd: i32, room: &mut [u8], l: Lines) -> Lines
     ensures { λ r. ⌜ Inside r (now (room .exit)) ⌝ }
 {
     let number = raised(l.number);
-    let to = least(l.to, room.len());
-    let next = least(l.next, to);
-    let e = line_end(room, next, to);
-    if e < to {
-        return numbered(found(next, e, to), number);
-    }
-    let have = moved(room, next, to);
-    numbered(read_line(fd, room, have), number)
+    let next = line_after(fd, room, l);
+    numbered(room, next, number)
+}
+
+// Room for the longest line, 65536 bytes, and its line end.
+pub fn line_room() -> [u8; 65540]
+    ensures { λ r. ⌜ 65540 ≡ length r ⌝ }
+{
+    [0; 65540]
 }

@@ -1,10 +1,10 @@
-// Text put into a lent room at a place. Each function answers the place after it, which is never past the room's end;
+// Text put into a lent room at a cursor. Each function answers the cursor after it, which is never past the room's end;
 // what does not fit is left out.
 ghost use Rattle.io.specs.Counts.{Counts};
 use records::ura::Ura;
 use verdict::Verdict;
 
-// The place itself, or the room's end where it lies past that.
+// The cursor itself, or the room's end where it lies past that.
 pub fn place_in(room: &[u8], at: usize) -> usize
     ensures { λ r. ⌜ Counts r (now (room .entry)) ⌝ }
 {
@@ -175,4 +175,47 @@ pub fn put_where(room: &mut [u8], program: &[u8], file: &[u8], word: &[u8], x: u
     let a = put_file(room, program, file);
     let b = put_byte(room, a, b':');
     put_field(room, b, word, x)
+}
+
+// A byte of printable ASCII as it is, a question mark for any other.
+fn printable(b: u8) -> u8 {
+    if (32 <= b) & (b <= 126) { b } else { 63 }
+}
+
+// Bytes in a row, each printable.
+fn put_printable(room: &mut [u8], at: usize, s: &[u8]) -> usize
+    ensures { λ r. ⌜ Counts r (now (room .exit)) ⌝ }
+{
+    let mut n = place_in(room, at);
+    let mut i: usize = 0;
+    while i < s.len() {
+        n = put_byte(room, n, printable(s[i]));
+        i += 1;
+    }
+    n
+}
+
+// A word between quotation marks; of a longer one than 40 bytes those, and two dots.
+pub fn put_quoted(room: &mut [u8], at: usize, word: &[u8]) -> usize
+    ensures { λ r. ⌜ Counts r (now (room .exit)) ⌝ }
+{
+    let k = place_in(word, 40);
+    let a = put_byte(room, at, 34);
+    let b = put_printable(room, a, &word[..k]);
+    let c = put_byte(room, b, 34);
+    if k < word.len() {
+        return put_bytes(room, c, b"..");
+    }
+    c
+}
+
+// What was found instead of what was expected: a word, or the end of the line where there is none.
+pub fn put_found(room: &mut [u8], at: usize, word: &[u8]) -> usize
+    ensures { λ r. ⌜ Counts r (now (room .exit)) ⌝ }
+{
+    if word.len() == 0 {
+        return put_bytes(room, at, b", found the end of the line");
+    }
+    let a = put_bytes(room, at, b", found ");
+    put_quoted(room, a, word)
 }

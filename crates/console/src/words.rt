@@ -6,7 +6,7 @@ ghost use lib.ListN.{length};
 ghost use Rattle.console.specs.Words.{valueOf, sizeOf};
 use crate::put::place_in;
 
-// The bytes of a line from one place to another; no word where the two are one.
+// The bytes of a line from one position to another; no word where the two are one.
 pub struct Word {
     pub from: usize,
     pub to: usize,
@@ -29,7 +29,7 @@ fn is_blank(b: u8) -> bool {
     (b == 32) | (b == 9) | (b == 13)
 }
 
-// The first place from a place on that has a blank, or that has none; the line's end where there is no such place.
+// The first position from a position on that has a blank, or that has none; the line's end where there is no such one.
 fn seek(s: &[u8], at: usize, blank: bool) -> usize
     requires { ⌜ at ≤ length (now s) ⌝ }
     ensures { λ r. ⌜ (at ≤ r) × (r ≤ length (now (s .entry))) ⌝ }
@@ -44,7 +44,7 @@ fn seek(s: &[u8], at: usize, blank: bool) -> usize
     s.len()
 }
 
-// The first word from a place on.
+// The first word from a position on.
 pub fn next_word(s: &[u8], at: usize) -> Word
     ensures { λ r. ⌜ (r .from ≤ r .to) × (r .to ≤ length (now (s .entry))) ⌝ }
 {
@@ -157,4 +157,22 @@ pub fn starts(s: &[u8], b: u8) -> bool
         return false;
     }
     s[0] == b
+}
+
+// Whether a text is an option: a minus sign and more. A minus sign alone is standard input.
+pub fn is_option(s: &[u8]) -> bool {
+    starts(s, b'-') & (s.len() > 1)
+}
+
+// How many bytes the byte order mark has that a text starts with: 3, or 0 where it starts with none.
+pub fn after_mark(s: &[u8]) -> usize
+    ensures { λ r. ⌜ r ≤ length (now (s .entry)) ⌝ }
+{
+    if s.len() < 3 {
+        return 0;
+    }
+    if (s[0] == 239) & (s[1] == 187) & (s[2] == 191) {
+        return 3;
+    }
+    0
 }

@@ -1,0 +1,66 @@
+use Rattle.io.proofs.Counting.{counts}
+use borrow.Author.Needs.{needs}
+use native.Mathlib.Omega.{arith}
+use Prim.Native.Nat.{ℕ, zero, suc, _+_, _*_, _-_, _/_, _%_, _^_, _≤_, _<_}
+use mathlib.Core.Path.{_≡_, sym, ap, _∙_, refl, subst}
+use lib.ListN.{length, getD}
+use Rattle.console.proofs.put.put_printable.Statement.{statement}
+use Rattle.console.proofs.put.put_printable.Tie as tie
+use Rattle.console.proofs.put.put_printable.Reads as reads
+use Rattle.console.proofs.put.put_printable.Lts as lts
+use Rattle.console.proofs.put.place_in.Reads as place-in-reads
+use Rattle.console.proofs.put.printable.Reads as printable-reads
+use Rattle.console.proofs.put.put_byte.Reads as put-byte-reads
+
+abbrev Inv-loop : tie.InvT-loop
+Inv-loop room₀ at s n₀ i₀ room n i = (length room ≡ length room₀) × (n ≤ length room) × (i ≤ length s)
+
+abbrev μ-loop : tie.MeasureT-loop
+μ-loop room₀ at s n₀ i₀ room n i = length s - i
+
+place-in-requires : tie.Need-place-in-requires Inv-loop μ-loop
+place-in-requires c κs = search needs
+
+loop-holds : tie.Need-loop-holds Inv-loop μ-loop
+loop-holds c = search needs
+
+shared-slice-read-printable : tie.Need-shared-slice-read-printable Inv-loop μ-loop
+shared-slice-read-printable c = search needs
+
+printable-requires : tie.Need-printable-requires Inv-loop μ-loop
+printable-requires c κs = search needs
+
+put-byte-requires : tie.Need-put-byte-requires Inv-loop μ-loop
+put-byte-requires c κs = search needs
+
+add-i : tie.Need-add-i Inv-loop μ-loop
+add-i c = search needs
+
+loop-less : tie.Need-loop-less Inv-loop μ-loop
+loop-less c = search needs
+
+loop-again : tie.Need-loop-again Inv-loop μ-loop
+loop-again c = search needs
+
+same-length : tie.Need-same-length Inv-loop μ-loop
+same-length c = search needs
+
+returns : tie.Need-returns Inv-loop μ-loop
+returns c = counts _ _ (omega arith)
+
+pub put-printable-spec : {M : Type 1} → statement M
+put-printable-spec =
+    tie.close
+    (tie.spec
+    Inv-loop
+    μ-loop
+    place-in-requires
+    loop-holds
+    shared-slice-read-printable
+    printable-requires
+    put-byte-requires
+    add-i
+    loop-less
+    loop-again
+    same-length
+    returns)
