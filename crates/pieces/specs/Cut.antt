@@ -36,13 +36,13 @@ pub record InPieces (s : List ℕ) : Type 0 where
 -- a frame f that no earlier frame overlaps: none that begins before it reaches into it
 pub record Clear (before f after : List ℕ) : Type 0 where
   pub frame : isFrame f ≡ true
-  pub clear : (q : ℕ) → q < length before → length before < q + 125 → standsAt (before ++ f ++ after) q ≡ false
+  pub clear : (q : ℕ) → q < length before → length before < q + 125 → standsAt (before ++ (f ++ after)) q ≡ false
 
 -- f is handed in whole: it is a piece, after pieces of what comes before it and before those of what comes after
 pub record HandedWhole (before f after : List ℕ) : Type 0 where
   pub pieces : List (List ℕ)
   pub earlier : joined pieces ≡ before
-  pub whole : cut (before ++ f ++ after) ≡ pieces ++ (f ∷ cut after)
+  pub whole : cut (before ++ (f ++ after)) ≡ pieces ++ (f ∷ cut after)
 
 -- chunk i of s, from 0: 125 bytes; what is left at the end is a shorter one
 abbrev pub chunkAt : List ℕ → ℕ → List ℕ
@@ -56,3 +56,14 @@ chunks s = table (chunkAt s) ((length s + 124) / 125)
 abbrev pub InStep : List ℕ → Type 0
 InStep s = (i : ℕ) → 125 * i + 125 ≤ length s →
     (standsAt s (125 * i) ≡ true) ⊎ ((q : ℕ) → 125 * i < q → q < 125 * i + 125 → standsAt s q ≡ false)
+
+-- all that is promised of the pieces of a log
+pub record Promised : Type 0 where
+  -- every byte is in exactly one piece, in order
+  pub bytes : (s : List ℕ) → InPieces s
+  -- a frame that no earlier frame overlaps is handed in whole, wherever it stands
+  pub frames : (before f after : List ℕ) → Clear before f after → HandedWhole before f after
+  -- a log in step, as one of whole frames is, is cut into chunks of 125
+  pub chunked : (s : List ℕ) → InStep s → cut s ≡ chunks s
+  -- the next 250 bytes decide the next piece
+  pub near : (s : List ℕ) (w : ℕ) → 250 ≤ w → pieceLength (take w s) ≡ pieceLength s
