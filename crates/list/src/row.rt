@@ -40,7 +40,7 @@ fn is_assigned(slot: Slot) -> bool
 }
 
 // Whether a URA's code is not 0.
-fn is_known(u: Ura) -> bool
+pub fn is_known(u: Ura) -> bool
     ensures { λ r. ⌜ r ≡ isKnown u ⌝ }
 {
     match u {
@@ -51,7 +51,7 @@ fn is_known(u: Ura) -> bool
 }
 
 // Whether the URA is known and no raw value is unusable.
-fn is_usable(o: HeldOrbit, k: HeldClock) -> bool
+pub fn is_usable(o: HeldOrbit, k: HeldClock) -> bool
     ensures { λ r. ⌜ r ≡ usable o k ⌝ }
 {
     let u = o.ura;

@@ -1,0 +1,3 @@
+pub mod NextLaws
+pub mod LogLaws
+pub mod EpochLaws
