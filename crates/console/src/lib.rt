@@ -7,4 +7,5 @@ pub mod out;
 pub mod put;
 pub mod refusals;
 pub mod say;
+pub mod turns;
 pub mod words;

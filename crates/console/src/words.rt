@@ -176,3 +176,21 @@ pub fn after_mark(s: &[u8]) -> usize
     }
     0
 }
+
+// Where the text of a line begins: after the byte order mark that line 1 may start with.
+pub fn text_start(s: &[u8], number: u64) -> usize
+    ensures { λ r. ⌜ r ≤ length (now (s .entry)) ⌝ }
+{
+    if number == 1 {
+        return after_mark(s);
+    }
+    0
+}
+
+// Whether a line says nothing: it is blank, or a comment.
+pub fn is_remark(s: &[u8]) -> bool {
+    let w = next_word(s, 0);
+    let a = w.from;
+    let b = w.to;
+    (a == b) | starts(&s[a..b], b'#')
+}

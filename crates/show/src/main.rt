@@ -1,182 +1,222 @@
 // show [-f] FILE: one line for each message of 61 bytes, or for each frame of 125.
 mod lines;
 
+use console::args::Args;
+use console::args::own;
+use console::args::own_count;
+use console::args::own_is;
 use console::put::put_byte;
 use console::put::put_bytes;
 use console::put::put_detail;
 use console::put::put_number;
+use console::turns::ENDED;
+use console::turns::NOTHING;
+use console::turns::WRITTEN;
+use console::turns::WRONG;
+use console::turns::status_of;
 use contents::parts::Contents;
 use libc::STDERR_FILENO;
 use libc::STDIN_FILENO;
-use libc::STDOUT_FILENO;
 use verdict::Verdict;
 use verdict::number_of;
 
+// A line goes to standard output.
+fn write_line(line: &[u8]) -> u8 {
+    if console::out::write(b"show", line) {
+        return WRITTEN;
+    }
+    WRONG
+}
+
 // The line of a refusal.
-fn write_refused(v: Verdict) {
+fn write_refused(v: Verdict) -> u8 {
     let mut room = [0u8; 60];
     let a = put_bytes(&mut room, 0, b"refused ");
     let b = put_number(&mut room, a, number_of(v) as u64);
     let d = put_detail(&mut room, b, v);
     let k = put_byte(&mut room, d, 10);
-    io::write_all(STDOUT_FILENO, &room[..k]);
+    write_line(&room[..k])
 }
 
 // The line of a message.
-fn write_message(c: Contents) {
+fn write_message(c: Contents) -> u8 {
     let mut room = io::buffer();
     let a = lines::put_contents(&mut room, 0, c);
     let k = put_byte(&mut room, a, 10);
-    io::write_all(STDOUT_FILENO, &room[..k]);
+    write_line(&room[..k])
 }
 
 // The line of a frame's message, which begins with its PRN.
-fn write_frame(prn: u8, c: Contents) {
+fn write_frame(prn: u8, c: Contents) -> u8 {
     let mut room = io::buffer();
     let a = put_bytes(&mut room, 0, b"prn ");
     let b = put_number(&mut room, a, prn as u64);
     let d = put_byte(&mut room, b, b' ');
     let e = lines::put_contents(&mut room, d, c);
     let k = put_byte(&mut room, e, 10);
-    io::write_all(STDOUT_FILENO, &room[..k]);
+    write_line(&room[..k])
 }
 
 // The line of a message's bytes.
-fn show_message(s: &[u8]) {
+fn show_message(s: &[u8]) -> u8 {
     let r = message::read(s);
     let v = r.verdict;
     if number_of(v) == 0 {
         let c = r.contents;
-        write_message(c);
-    } else {
-        write_refused(v);
+        return write_message(c);
     }
+    write_refused(v)
 }
 
 // The line of a frame's bytes.
-fn show_frame(s: &[u8]) {
+fn show_frame(s: &[u8]) -> u8 {
     let r = frame::read_frame(s);
     let v = r.verdict;
     if number_of(v) == 0 {
         let c = r.contents;
-        write_frame(frame::prn_of(s), c);
-    } else {
-        write_refused(v);
+        return write_frame(frame::prn_of(s), c);
     }
+    write_refused(v)
 }
 
 // The file cannot be read at an offset.
-fn say_failed(name: &[u8], done: u64) {
+fn say_failed(name: &[u8], done: u64) -> u8 {
     console::say::say_errno_where(b"show", name, b"offset", done);
+    WRONG
 }
 
-// The next message of a file: 0 to go on, 1 at the end or where the file cannot be read.
+// Whether bytes look like a frame: they begin with its sync, EB90. As a message they would have type 58, which is never valid, so no message is lost.
+fn is_framed(s: &[u8]) -> bool {
+    if s.len() < 2 {
+        return false;
+    }
+    (s[0] == 0xEB) & (s[1] == 0x90)
+}
+
+// The message at an offset; at the file's start there may be frames instead.
+fn message_at(name: &[u8], done: u64, s: &[u8]) -> u8 {
+    if (done == 0) & is_framed(s) {
+        console::say::say_file(
+            b"show",
+            name,
+            b"these look like frames, which begin with EB90; use show -f",
+        );
+        return WRONG;
+    }
+    show_message(s)
+}
+
+// The next message of a file.
 fn turn_message(fd: i32, name: &[u8], done: u64) -> u8 {
     let mut room = [0u8; 61];
     let p = console::input::fill(fd, &mut room);
     if p.failed {
-        say_failed(name, done);
-        return 1;
+        return say_failed(name, done);
     }
     let n = p.count;
     if n == 0 {
-        return 1;
+        return ENDED;
     }
-    show_message(&room[..n]);
-    0
+    message_at(name, done, &room[..n])
 }
 
-// The next frame of a file: 0 to go on, 1 at the end or where the file cannot be read.
+// The next frame of a file.
 fn turn_frame(fd: i32, name: &[u8], done: u64) -> u8 {
     let mut room = [0u8; 125];
     let p = console::input::fill(fd, &mut room);
     if p.failed {
-        say_failed(name, done);
-        return 1;
+        return say_failed(name, done);
     }
     let n = p.count;
     if n == 0 {
-        return 1;
+        return ENDED;
     }
-    show_frame(&room[..n]);
-    0
+    show_frame(&room[..n])
 }
 
-// All frames of a file.
-fn show_frames(fd: i32, name: &[u8]) {
-    let mut state: u8 = 0;
+// All frames of a file, and how the reading ended.
+fn show_frames(fd: i32, name: &[u8]) -> u8 {
+    let mut state = NOTHING;
     let mut done: u64 = 0;
     let mut left: u64 = 100000000000000000;
-    while left > 0 && state == 0 {
+    while left > 0 && state < ENDED {
         state = turn_frame(fd, name, done);
         done = done % 10000000000000000000 + 125;
         left -= 1;
     }
+    state
 }
 
-// All messages of a file.
-fn show_messages(fd: i32, name: &[u8]) {
-    let mut state: u8 = 0;
+// All messages of a file, and how the reading ended.
+fn show_messages(fd: i32, name: &[u8]) -> u8 {
+    let mut state = NOTHING;
     let mut done: u64 = 0;
     let mut left: u64 = 100000000000000000;
-    while left > 0 && state == 0 {
+    while left > 0 && state < ENDED {
         state = turn_message(fd, name, done);
         done = done % 10000000000000000000 + 61;
         left -= 1;
     }
+    state
 }
 
-// All frames or messages of a file.
-fn show_all(fd: i32, name: &[u8], frames: bool) {
+// All frames or messages of a file; the status.
+fn show_all(fd: i32, name: &[u8], frames: bool) -> u8 {
     if frames {
-        show_frames(fd, name);
-        return;
+        return status_of(show_frames(fd, name));
     }
-    show_messages(fd, name);
+    status_of(show_messages(fd, name))
 }
 
 // The file of a name; - is standard input.
-fn show_file(name: &[u8], frames: bool) {
+fn show_file(name: &[u8], frames: bool) -> u8 {
     if console::words::same(name, b"-") {
-        show_all(STDIN_FILENO, name, frames);
-        return;
+        return show_all(STDIN_FILENO, b"standard input", frames);
     }
     let fd = os::open_read(name);
     if fd < 0 {
         console::say::say_errno(b"show", name);
-        return;
+        return 1;
     }
-    show_all(fd, name, frames);
+    let status = show_all(fd, name, frames);
     libc::close(fd);
+    status
 }
 
-// The file of argument i.
-fn show_arg(i: usize, frames: bool) {
+// How the program is called.
+fn usage() -> u8 {
+    io::write_all(STDERR_FILENO, b"usage: show [-f] FILE\n");
+    2
+}
+
+// The file of the program's own argument i.
+fn show_arg(a: Args, i: usize, frames: bool) -> u8 {
     let mut path = io::buffer();
-    let n = os::arg(i, &mut path);
+    let n = own(a, i, &mut path);
     if os::errno() != 0 {
         console::say::say_errno(b"show", b"argument");
-        return;
+        return 1;
     }
-    show_file(&path[..n], frames);
+    if console::words::is_option(&path[..n]) {
+        return usage();
+    }
+    show_file(&path[..n], frames)
 }
 
-// Whether the first argument is -f.
-fn is_frames() -> bool {
-    let mut room = io::buffer();
-    let n = os::arg(1, &mut room);
-    console::words::same(&room[..n], b"-f")
+// The program by its arguments; the status.
+fn run(a: Args) -> u8 {
+    let count = own_count(a);
+    if count == 1 {
+        return show_arg(a, 0, false);
+    }
+    if (count == 2) & own_is(a, 0, b"-f") {
+        return show_arg(a, 1, true);
+    }
+    usage()
 }
 
 fn main() {
-    let count = os::arg_count();
-    if count == 2 {
-        show_arg(1, false);
-        return;
-    }
-    if (count == 3) & is_frames() {
-        show_arg(2, true);
-        return;
-    }
-    io::write_all(STDERR_FILENO, b"usage: show [-f] FILE\n");
+    let a = console::args::begin();
+    let status = run(a);
+    console::args::end(a, status);
 }
