@@ -62,10 +62,16 @@ static void usage(void)
     exit(2);
 }
 
-static unsigned long number_of(const char *word)
+/* Whether a word is a number of at most nine digits. */
+static bool is_number(const char *word)
 {
     size_t digits = word == NULL ? 0 : strspn(word, "0123456789");
-    if (digits == 0 || digits > 9 || word[digits] != 0)
+    return digits > 0 && digits <= 9 && word[digits] == 0;
+}
+
+static unsigned long number_of(const char *word)
+{
+    if (!is_number(word))
         usage();
     return strtoul(word, NULL, 10);
 }
@@ -349,7 +355,7 @@ int main(int argc, char **argv)
 
     if (argc - arg < 3)
         usage();
-    prn = (unsigned)strtoul(argv[arg], NULL, 10);
+    prn = is_number(argv[arg]) ? (unsigned)number_of(argv[arg]) : 0;
     if (ref_open(&ledger, prn) != 0)
         stop(argv[arg], "no such PRN");
     read_issues(argv[arg + 1], issues);
