@@ -12,8 +12,9 @@
  * Every function is total: for any bytes it ends, and answers QVD_TAKEN or one
  * refusal number, the lowest that applies. That number is what it returns, save
  * that qvd_take_detail and qvd_read_frame_detail put more above it for two of the
- * refusals. A refusal leaves all that was lent as it was, every byte of it,
- * whichever function refuses and with whatever number.
+ * refusals, and that qvd_next_piece returns a length and refuses nothing. A
+ * refusal leaves all that was lent as it was, every byte of it, whichever function
+ * refuses and with whatever number.
  *
  * QVD_LENGTH comes before all others: a ledger, a form or a room that is not as
  * long as this header says. A length that the rules themselves speak of is
@@ -158,6 +159,14 @@ uint8_t qvd_replay(uint8_t *ledger, size_t n, uint8_t prn, const uint8_t *log, s
 /* As qvd_replay, with what qvd_take_detail would return for each frame. 4, 39. */
 uint8_t qvd_replay_detail(uint8_t *ledger, size_t n, uint8_t prn, const uint8_t *log, size_t m,
                           uint32_t *details, size_t k);
+
+/* The length of the next piece of a log of which n bytes are left, 0 for none. Of
+ * a log that has lost bytes, or has some too many, the pieces are what qvd_take is
+ * to be handed: a frame with the right sync and all parity groups zero is one, of
+ * 125 bytes; else it is what stands before the first such frame, if one begins
+ * within the next 125 bytes; else the next 125 bytes, or what is left. Hand in at
+ * least 250 bytes unless the log ends before: so much decides the answer. */
+uint8_t qvd_next_piece(const uint8_t *bytes, size_t n);
 
 /* Gives the rows of all slots that qualify, one after the other in rising slot
  * order, then zeros; r is QVD_ROWS_BYTES. A row's first byte, its slot, is 1 to

@@ -10,16 +10,19 @@ flags=(-std=gnu11 -O2 -Wall -Wextra -Wpedantic -Wconversion -Wshadow -Wstrict-pr
 # The calls of the library's C boundary, as include/quieuvodan.h declares them.
 boundary=$(sed -n 's/^uint[0-9]*_t \(qvd_[a-z0-9_]*\)(.*/\1/p' "$root/include/quieuvodan.h")
 
-# install_missing COMMAND PACKAGE..: installs Debian packages if the command is missing.
+# install_missing COMMAND PACKAGE..: installs Debian packages if the command is
+# missing, and says so before; QUIEUVODAN_INSTALL=0 forbids it.
 install_missing() {
     local command=$1
     shift
     command -v "$command" >/dev/null && return
     local sudo=
-    [ "$(id -u)" = 0 ] || sudo=sudo
-    echo "installing $*" >&2
-    { $sudo apt-get update -q && DEBIAN_FRONTEND=noninteractive $sudo apt-get install -q -y --no-install-recommends "$@"; } >&2 ||
-        { echo "could not install $*" >&2; exit 2; }
+    [ "$(id -u)" = 0 ] || sudo='sudo -n'
+    [ "${QUIEUVODAN_INSTALL:-1}" != 0 ] || { echo "${0##*/}: $command is missing: install $* first" >&2; exit 1; }
+    echo "... installing $*" >&2
+    { $sudo apt-get update -q && DEBIAN_FRONTEND=noninteractive $sudo apt-get install -q -y --no-install-recommends "$@"; } \
+        >/dev/null 2>&1 </dev/null ||
+        { echo "${0##*/}: $command is missing and could not be installed: install $* first" >&2; exit 1; }
 }
 
 if [ "$(uname -m)" = x86_64 ]; then

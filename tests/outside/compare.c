@@ -1,8 +1,8 @@
 /* Makes many messages, frames, logs, contents and subframes from a fixed seed,
  * good and damaged, hands them to the library and to the independent
  * implementation, and compares verdicts and what they give beside their number,
- * contents, written bytes, rows, and that what was lent stays as it was on a
- * refusal.
+ * the pieces of torn logs, contents, written bytes, rows, and that what was lent
+ * stays as it was on a refusal.
  *
  *   compare [SEED [PERCENT]]    PERCENT of the standard run's size, 100 if not given
  *
@@ -86,11 +86,11 @@ static uint8_t *input_end, *output_end, *ledger_end, *log_end, *verdicts_end, *i
 
 enum call {
     OPEN, TAKE, TAKE_DETAIL, REPLAY, REPLAY_DETAIL, READ, READ_FRAME, READ_FRAME_DETAIL, WRITE, ROWS, ROW, D1_READ,
-    D1_WRITE, CALLS
+    D1_WRITE, CALLS, NEXT_PIECE = CALLS /* this last one refuses nothing */
 };
-static const char *const call_name[CALLS] = {
+static const char *const call_name[CALLS + 1] = {
     "open", "take", "take_detail", "replay", "replay_detail", "read", "read_frame", "read_frame_detail", "write", "rows",
-    "row", "d1_read", "d1_write"
+    "row", "d1_read", "d1_write", "next_piece"
 };
 
 enum { MOST_VERDICT = 40, WANTED = 500 };
@@ -98,6 +98,7 @@ static unsigned long tally[CALLS][MOST_VERDICT];
 static unsigned long comparisons, differences;
 static unsigned long lists_with_rows, rows_seen, masks_changed, frames_noise;
 static unsigned long rows_of_any_bytes, subframes_corrected;
+static unsigned long pieces_compared, pieces_of_length[FRAME_BYTES + 1], overlaps_seen;
 
 /* What came beside the numbers 6 and 19. */
 static bool first_seen[GROUPS + 1], failing_seen[GROUPS + 1], places_seen[SLOTS + 1];
@@ -1428,6 +1429,225 @@ static void compare_any_bytes(unsigned count)
     }
 }
 
+/* ---- pieces of torn logs ---- */
+
+static void compare_piece(const uint8_t *bytes, size_t n)
+{
+    uint8_t *input = input_end - n;
+    size_t reference = ref_next_piece(bytes, n);
+
+    memcpy(input, bytes, n);
+    now.call = NEXT_PIECE;
+    now.input = input;
+    now.input_bytes = n;
+    same_number("length of the next piece", qvd_next_piece(input, n), (unsigned)reference);
+    same_bytes("the input afterwards", input, bytes, n);
+    pieces_compared++;
+    pieces_of_length[reference]++;
+}
+
+/* A good frame of some message, PRN and flags. */
+static void some_frame(const struct leaning *l, uint8_t frame[FRAME_BYTES])
+{
+    struct leaning own = *l;
+    unsigned prn = below(64), flags = chance(60) ? 0 : below(64);
+    make_message(&own, 0, 30);
+    if (chance(15))
+        any_bytes(draft.bytes, MESSAGE_BYTES); /* the check is wrong, the parity right */
+    ref_encode(draft.bytes, prn, flags, frame);
+}
+
+/* Two good frames, of which the second begins `apart` bytes behind the first and
+ * in it. All good frames are the one of no bits and sums of those of one bit, of
+ * which there are 498: the message's, the PRN's and the flags'. So the bits that
+ * the two share are equations in 996 unknowns, and these are solved; those left
+ * open are drawn. No answer where there is no solution: one byte apart the two
+ * syncs do not fit. */
+enum { UNIT_BITS = 486 + 12, UNKNOWNS = 2 * UNIT_BITS, UNKNOWN_WORDS = UNKNOWNS / 64 + 1 };
+
+static uint8_t zero_frame[FRAME_BYTES], unit_frame[UNIT_BITS][FRAME_BYTES];
+
+static void make_units(void)
+{
+    uint8_t message[MESSAGE_BYTES] = { 0 };
+    ref_encode(message, 0, 0, zero_frame);
+    for (unsigned i = 0; i < UNIT_BITS; i++) {
+        unsigned head = i < 486 ? 0 : 1u << (i - 486);
+        memset(message, 0, sizeof message);
+        if (i < 486)
+            ref_put_bits(message, i, 1, 1);
+        ref_encode(message, head >> 6, head & 63, unit_frame[i]);
+        for (unsigned k = 0; k < FRAME_BYTES; k++)
+            unit_frame[i][k] ^= zero_frame[k];
+    }
+}
+
+static unsigned bit_of(const uint8_t *bytes, unsigned bit) { return bytes[bit / 8] >> (7 - bit % 8) & 1; }
+static bool word_bit(const uint64_t *words, unsigned bit) { return words[bit / 64] >> bit % 64 & 1; }
+
+/* Brings the equations, the right side in bit UNKNOWNS, to the form in which each
+ * has an unknown of its own; its number goes to `own`. How many there are then is
+ * answered, or 0 if they contradict each other. */
+static unsigned solve(uint64_t (*equation)[UNKNOWN_WORDS], unsigned count, unsigned *own)
+{
+    unsigned done = 0;
+    for (unsigned unknown = 0; unknown < UNKNOWNS && done < count; unknown++) {
+        unsigned pivot = done;
+        while (pivot < count && !word_bit(equation[pivot], unknown))
+            pivot++;
+        if (pivot == count)
+            continue;
+        for (unsigned w = 0; w < UNKNOWN_WORDS; w++) {
+            uint64_t other = equation[pivot][w];
+            equation[pivot][w] = equation[done][w];
+            equation[done][w] = other;
+        }
+        for (unsigned i = 0; i < count; i++)
+            if (i != done && word_bit(equation[i], unknown))
+                for (unsigned w = 0; w < UNKNOWN_WORDS; w++)
+                    equation[i][w] ^= equation[done][w];
+        own[done++] = unknown;
+    }
+    for (unsigned i = done; i < count; i++)
+        if (word_bit(equation[i], UNKNOWNS))
+            return 0;
+    return done;
+}
+
+static bool overlap(unsigned apart, uint8_t bytes[2 * FRAME_BYTES])
+{
+    static uint64_t equation[8 * FRAME_BYTES][UNKNOWN_WORDS];
+    static unsigned own[UNKNOWNS];
+    unsigned count = 8 * (FRAME_BYTES - apart), done;
+    bool value[UNKNOWNS];
+
+    memset(equation, 0, sizeof equation);
+    for (unsigned k = 0; k < count; k++) {
+        uint64_t *e = equation[k];
+        for (unsigned i = 0; i < UNIT_BITS; i++) {
+            e[i / 64] |= (uint64_t)bit_of(unit_frame[i], k + 8 * apart) << i % 64;
+            e[(UNIT_BITS + i) / 64] |= (uint64_t)bit_of(unit_frame[i], k) << (UNIT_BITS + i) % 64;
+        }
+        e[UNKNOWNS / 64] |= (uint64_t)(bit_of(zero_frame, k + 8 * apart) ^ bit_of(zero_frame, k)) << UNKNOWNS % 64;
+    }
+    done = solve(equation, count, own);
+    if (done == 0)
+        return false;
+    for (unsigned i = 0; i < UNKNOWNS; i++)
+        value[i] = any32() & 1;
+    for (unsigned k = 0; k < done; k++) {
+        bool sum = word_bit(equation[k], UNKNOWNS);
+        for (unsigned i = own[k] + 1; i < UNKNOWNS; i++)
+            sum ^= word_bit(equation[k], i) && value[i];
+        value[own[k]] = sum;
+    }
+    memcpy(bytes, zero_frame, FRAME_BYTES);
+    memcpy(bytes + FRAME_BYTES, zero_frame + FRAME_BYTES - apart, apart);
+    for (unsigned i = 0; i < UNKNOWNS; i++)
+        for (unsigned k = 0; value[i] && k < FRAME_BYTES; k++) {
+            if (i < UNIT_BITS)
+                bytes[k] ^= unit_frame[i][k];
+            else if (k + apart >= FRAME_BYTES)
+                bytes[k + apart] ^= unit_frame[i - UNIT_BITS][k];
+        }
+    return true;
+}
+
+/* Two frames that overlap, so many bytes apart, behind 0 to 126 bytes of noise
+ * and before more of it; whole, and cut short. */
+static void compare_overlap(unsigned apart)
+{
+    uint8_t bytes[5 * FRAME_BYTES], pair[2 * FRAME_BYTES];
+
+    if (!overlap(apart, pair))
+        return;
+    same_number("the first of two frames is a piece", (unsigned)ref_next_piece(pair, FRAME_BYTES), FRAME_BYTES);
+    same_number("the second of two frames is a piece", (unsigned)ref_next_piece(pair + apart, FRAME_BYTES), FRAME_BYTES);
+    overlaps_seen++;
+    for (unsigned before = 0; before < FRAME_BYTES + 2; before += 1 + below(5)) {
+        any_bytes(bytes, sizeof bytes);
+        memcpy(bytes + before, pair, FRAME_BYTES + apart);
+        compare_piece(bytes, sizeof bytes);
+        compare_piece(bytes, before + FRAME_BYTES + below(apart + 1));
+    }
+}
+
+/* Good frames one behind the other, some of them damaged, some bytes of them lost
+ * or too many, read from an offset on; each offset of a frame comes in turn. */
+static void compare_torn(const struct leaning *l, unsigned offset)
+{
+    uint8_t bytes[6 * FRAME_BYTES];
+    size_t n = 0;
+
+    while (n < 4 * FRAME_BYTES) {
+        some_frame(l, bytes + n);
+        if (chance(25))
+            damage(bytes + n, FRAME_BYTES + 1);
+        n += FRAME_BYTES;
+        if (chance(20))
+            n -= 1 + below(FRAME_BYTES - 1);
+        if (chance(10)) {
+            unsigned more = 1 + below(FRAME_BYTES);
+            any_bytes(bytes + n, more);
+            n += more;
+        }
+    }
+    compare_piece(bytes + offset, n - offset);
+    compare_piece(bytes + offset, below(301));
+    compare_piece(bytes + offset, 2 * FRAME_BYTES - 2 + below(4));
+    compare_piece(bytes + n - offset, offset);
+}
+
+/* Noise with syncs in it, and now and then a frame that has one wrong symbol, lacks
+ * its sync, or is all zeros behind it. */
+static void compare_noise(const struct leaning *l)
+{
+    uint8_t bytes[6 * FRAME_BYTES], frame[FRAME_BYTES];
+    unsigned syncs = chance(50) ? below(4) : below(200), at = below(3 * FRAME_BYTES);
+
+    if (chance(30))
+        memset(bytes, chance(50) ? 0 : 0xEB, sizeof bytes);
+    else
+        any_bytes(bytes, sizeof bytes);
+    while (syncs-- > 0) {
+        unsigned where = below(sizeof bytes - 1);
+        bytes[where] = 0xEB;
+        bytes[where + 1] = 0x90;
+    }
+    some_frame(l, frame);
+    switch (below(5)) {
+    case 0: flip_bits(frame, 28, 999, 1); break;
+    case 1: flip_bits(frame, 0, 15, 1); break;
+    case 2: memset(frame + 2, 0, FRAME_BYTES - 2); break;
+    case 3: frame[0] = 0x90, frame[1] = 0xEB; break;
+    default: break;
+    }
+    memcpy(bytes + at, frame, FRAME_BYTES);
+    compare_piece(bytes, sizeof bytes);
+    compare_piece(bytes, at + FRAME_BYTES - below(2));
+    compare_piece(bytes, below(301));
+}
+
+static void compare_pieces(unsigned long count)
+{
+    struct leaning l;
+
+    begin("piece");
+    now.issues = NULL;
+    make_units();
+    for (unsigned apart = 1; apart < FRAME_BYTES; apart++) {
+        now.number = apart;
+        compare_overlap(apart);
+    }
+    for (unsigned long i = 0; i < count; i++) {
+        now.number = i;
+        if (i % 50 == 0)
+            some_leaning(&l);
+        compare_torn(&l, (unsigned)(i % FRAME_BYTES));
+        compare_noise(&l);
+    }
+}
+
 /* ---- subframes of D1 and D2 ---- */
 
 enum { PREAMBLE = 0x712, LAST_SECOND = 604799, CODE_WORDS = 19, SUBFRAME_BITS = 300 };
@@ -1647,6 +1867,7 @@ static void print_table(void)
     printf("\n%lu mask changes, %lu frames of noise, %lu lists with rows, %lu rows, %lu rows of any bytes\n",
            masks_changed, frames_noise, lists_with_rows, rows_seen, rows_of_any_bytes);
     printf("%lu subframes with at most one flip in each code word\n", subframes_corrected);
+    printf("%lu pieces, %lu pairs of good frames that overlap\n", pieces_compared, overlaps_seen);
     printf("beside 6 and 19: %u first groups, %u numbers of failing groups, %u numbers of places\n",
            count_seen(first_seen, GROUPS), count_seen(failing_seen, GROUPS), count_seen(places_seen, SLOTS));
 }
@@ -1662,13 +1883,18 @@ static bool too_few(void)
                        tally[c][gives[c][i]]);
                 few = true;
             }
+    for (unsigned n = 0; n <= FRAME_BYTES; n++)
+        if (pieces_of_length[n] < 20) {
+            printf("compare: a piece of %u bytes came only %lu times\n", n, pieces_of_length[n]);
+            few = true;
+        }
     if (count_seen(first_seen, GROUPS) < GROUPS) {
         printf("compare: not every parity group was the first to fail\n");
         few = true;
     }
     if (calls_of(TAKE) < 100000 || calls_of(TAKE_DETAIL) < 50000 || calls_of(READ) < 100000 ||
-        calls_of(WRITE) < 50000 || lists_with_rows < 10000) {
-        printf("compare: fewer frames, messages or lists than the standard run has\n");
+        calls_of(WRITE) < 50000 || lists_with_rows < 10000 || pieces_compared < 20000 || overlaps_seen < 100) {
+        printf("compare: fewer frames, messages, lists or pieces than the standard run has\n");
         few = true;
     }
     return few;
@@ -1699,6 +1925,7 @@ int main(int argc, char **argv)
     compare_frames(400 * percent);
     compare_writes(800 * percent);
     compare_subframes(600 * percent);
+    compare_pieces(40 * percent);
     begin("log");
     while (calls_of(TAKE) < 1200 * percent)
         compare_log(logs++, 1 + below(chance(20) ? 10 : 300));

@@ -4,7 +4,15 @@
  * night's frames from PRN 60, a frame a second, as a receiver may have stored
  * them. A second mask comes in the middle; some seconds are damaged, some are
  * another satellite's, one says that the service is withdrawn, and the log
- * breaks off inside a frame. Always the same bytes. */
+ * breaks off inside a frame.
+ *
+ * And night-1.log, night-2.log and night-issues.txt: a whole night of more than
+ * four hours, of which one frame in 24 seconds is kept. It goes over midnight,
+ * where 16 minutes are missing; a second mask comes early and a third just before
+ * its end; bytes are lost in two places and too many in a third; the first log
+ * ends inside a frame, and the second begins with the rest of it.
+ *
+ * Always the same bytes. */
 #include "ref.h"
 
 #include <stdio.h>
@@ -16,10 +24,23 @@ enum {
     OTHER_PRN = 59,
     SECONDS = 480,
     NEW_MASK_AT = 240,  /* the second mask comes into force */
-    START = 72000,      /* second of the day of the first frame */
     SSR = 1,
-    MOST = 80           /* more satellites than either mask has */
+    DAY = 86400,
+    MOST = 80           /* more satellites than any mask has */
 };
+
+/* Which of the two logs is made: the second of the day of its first frame, the
+ * seconds at which its masks come into force, and how long, in seconds, the
+ * corrections and the broadcast issue of a satellite last and a step of its
+ * values takes. */
+struct night {
+    unsigned start, second_mask, third_mask, corr_lasts, issue_lasts, step;
+};
+static const struct night minutes = { 72000, NEW_MASK_AT, UINT32_MAX, 96, UINT32_MAX, 60 };
+static const struct night hours = { 79200, 24 * 144, 24 * 656, 3600, 7200, 1200 };
+static const struct night *night = &minutes;
+
+static unsigned epoch_of(unsigned second) { return (night->start + second) % DAY; }
 
 /* A fixed scatter of two numbers into 0 to range - 1. */
 static unsigned scatter(unsigned a, unsigned b, unsigned range)
@@ -36,27 +57,38 @@ static int16_t wander(unsigned slot, unsigned what, unsigned second, int spread)
     int middle = (int)scatter(slot, what, (unsigned)(2 * spread)) - spread;
     int slope = (int)scatter(slot, what + 50, 9) - 4;
     int noise = (int)scatter(slot * 1000 + what, second, 7) - 3;
-    return (int16_t)(middle + slope * (int)second / 60 + noise);
+    return (int16_t)(middle + slope * (int)second / (int)night->step + noise);
 }
 
-static unsigned iodn_of(unsigned slot) { return slot <= 63 ? 10 + scatter(slot, 1, 60) : scatter(slot, 2, 256); }
+/* The issues and the corrections of the satellites are renewed, not all at once. */
+static unsigned iodn_of(unsigned slot, unsigned second)
+{
+    unsigned first = slot <= 63 ? 10 + scatter(slot, 1, 60) : scatter(slot, 2, 256);
+    return night->issue_lasts == UINT32_MAX ? first : first + (second + scatter(slot, 8, night->issue_lasts)) / night->issue_lasts;
+}
 
-/* The corrections of a satellite are renewed every 96 seconds, not all at once. */
-static unsigned corr_of(unsigned slot, unsigned second) { return (scatter(slot, 3, 8) + (second + scatter(slot, 4, 96)) / 96) % 8; }
+static unsigned corr_of(unsigned slot, unsigned second)
+{
+    return (scatter(slot, 3, 8) + (second + scatter(slot, 4, night->corr_lasts)) / night->corr_lasts) % 8;
+}
 
 static void mask_at(unsigned second, struct mask *mask)
 {
     memset(mask, 0, sizeof *mask);
     mask->iod_ssr = SSR;
-    mask->iodp = second < NEW_MASK_AT ? 5 : 6;
+    mask->iodp = second < night->second_mask ? 5 : second < night->third_mask ? 6 : 7;
     for (int c = 19; c <= 46; c++)
         mask->set[c] = c != 31;
     for (int g = 1; g <= 32; g++)
         mask->set[63 + g] = g != 4 && g != 23;
-    if (second >= NEW_MASK_AT) {
+    if (second >= night->second_mask) {
         mask->set[20] = false;
         mask->set[100 + 5] = mask->set[100 + 11] = true; /* Galileo 5 and 11 */
         mask->set[137 + 7] = true;                       /* GLONASS 7 */
+    }
+    if (second >= night->third_mask) {
+        mask->set[20] = mask->set[31] = true;
+        mask->set[63 + 10] = false;
     }
 }
 
@@ -75,7 +107,7 @@ static struct orbit_record orbit_of(unsigned slot, unsigned second)
 {
     struct orbit_record o;
     o.slot = (uint16_t)slot;
-    o.iodn = (uint16_t)iodn_of(slot);
+    o.iodn = (uint16_t)iodn_of(slot, second);
     o.iod_corr = (uint8_t)corr_of(slot, second);
     o.radial = wander(slot, 10, second, 150);
     o.along = wander(slot, 11, second, 120);
@@ -99,7 +131,7 @@ static void type_1(struct contents *c, unsigned second)
 {
     c->kind = 1;
     mask_at(second, &c->mask);
-    c->mask.epoch = START + second;
+    c->mask.epoch = epoch_of(second);
 }
 
 static unsigned next_orbit; /* the satellite whose orbit is sent next */
@@ -108,7 +140,7 @@ static void six_orbits(struct contents *c, unsigned second, unsigned count)
 {
     uint8_t slots[MOST];
     unsigned n = slots_at(second, slots);
-    c->orbits.epoch = START + second / 48 * 48;
+    c->orbits.epoch = epoch_of(second / 48 * 48);
     c->orbits.iod_ssr = SSR;
     c->orbits.count = (uint8_t)count;
     for (unsigned i = 0; i < count; i++, next_orbit++) {
@@ -128,7 +160,7 @@ static void type_4(struct contents *c, unsigned second, unsigned sub)
     struct mask mask;
     mask_at(second, &mask);
     c->kind = 4;
-    c->clocks.epoch = START + second / 6 * 6;
+    c->clocks.epoch = epoch_of(second / 6 * 6);
     c->clocks.iod_ssr = SSR;
     c->clocks.iodp = mask.iodp;
     c->clocks.first = (uint16_t)sub;
@@ -145,7 +177,7 @@ static void type_6(struct contents *c, unsigned second, unsigned first, unsigned
     mask_at(second, &mask);
     c->kind = 6;
     if (num_c > 0) {
-        c->clocks.epoch = START + second / 6 * 6;
+        c->clocks.epoch = epoch_of(second / 6 * 6);
         c->clocks.iod_ssr = SSR;
         c->clocks.iodp = mask.iodp;
         c->clocks.first = (uint16_t)first;
@@ -163,7 +195,7 @@ static void type_7(struct contents *c, unsigned second, unsigned num_c, unsigned
     unsigned n = slots_at(second, slots);
     c->kind = 7;
     if (num_c > 0) {
-        c->clocks.epoch = START + second / 6 * 6;
+        c->clocks.epoch = epoch_of(second / 6 * 6);
         c->clocks.iod_ssr = SSR;
         c->clocks.count = (uint8_t)num_c;
         for (unsigned i = 0; i < num_c; i++) {
@@ -188,6 +220,16 @@ static void write_or_stop(const struct contents *c, uint8_t message[MESSAGE_BYTE
         fprintf(stderr, "make_samples: a message was refused %u\n", refusal);
         exit(1);
     }
+}
+
+/* Turns a message into a code bias message, type 3, of which only the type and the
+ * epoch are made here. */
+static void make_type_3(uint8_t message[MESSAGE_BYTES], unsigned second)
+{
+    memset(message, 0, MESSAGE_BYTES);
+    ref_put_bits(message, 0, 6, 3);
+    ref_put_bits(message, 6, 17, epoch_of(second));
+    ref_put_bits(message, CHECKED_BITS, 24, ref_check(message));
 }
 
 /* What the satellite sends in a second. */
@@ -222,14 +264,8 @@ static void sent(unsigned second, uint8_t message[MESSAGE_BYTES])
         six_orbits(&c, second, ORBITS);
     }
     write_or_stop(&c, message);
-    /* Every 48 seconds a code bias message, type 3, of which only the type is
-     * made here. */
-    if (second % 48 == 41) {
-        memset(message, 0, MESSAGE_BYTES);
-        ref_put_bits(message, 0, 6, 3);
-        ref_put_bits(message, 6, 17, START + second);
-        ref_put_bits(message, CHECKED_BITS, 24, ref_check(message));
-    }
+    if (second % 48 == 41)
+        make_type_3(message, second);
 }
 
 static void flip(uint8_t *bytes, unsigned bit) { bytes[bit / 8] ^= (uint8_t)(0x80 >> bit % 8); }
@@ -285,6 +321,107 @@ static void make_log(const char *folder)
         fwrite(frame, 1, second < SECONDS ? FRAME_BYTES : 57, out);
     }
     finish(out);
+}
+
+/* ---- the whole night: numbers of frames, 24 seconds apart ---- */
+
+enum {
+    APART = 24,
+    FRAMES = 660,             /* then the beginning of one more */
+    GAP_FROM = 280, GAP_TO = 320,
+    ROTATED = 400,            /* the first log ends inside it */
+    TORN = 470,               /* its end and the beginning of the next are lost */
+    BYTE_LOST = 520,
+    TOO_MANY = 200,           /* three bytes before it */
+    LAST_CLOCKS = FRAMES - 1  /* damaged: the last places get no clock under the third mask */
+};
+
+/* What the satellite sends. Of slot 31 there is never an orbit. */
+static void sent_in_hours(unsigned frame, uint8_t message[MESSAGE_BYTES])
+{
+    struct contents c = { 0 };
+    unsigned second = APART * frame, turn = frame % 16;
+    /* once the clocks still speak of the first mask */
+    unsigned told = frame == hours.second_mask / APART + 1 ? hours.second_mask - 1 : second;
+
+    switch (turn) {
+    case 0: type_1(&c, second); break;
+    case 1:
+    case 2:
+    case 3: type_4(&c, told, turn - 1); break;
+    case 7: type_6(&c, second, 1 + frame / 16 * 5 % 50, 4, 4); break;
+    case 9:
+    case 10:
+    case 11: type_4(&c, second, turn - 9); break;
+    case 13: c.kind = 63; break;
+    case 15: type_7(&c, second, 8, 2); break;
+    default:
+        c.kind = 2;
+        six_orbits(&c, second, ORBITS);
+        break;
+    }
+    for (unsigned i = 0; i < c.orbits.count || (c.kind == 2 && i < ORBITS); i++)
+        if (c.orbits.record[i].slot == 31)
+            c.orbits.record[i].slot = 0;
+    if (frame == LAST_CLOCKS / 16 * 16 - 1)
+        c.orbits.iod_ssr = SSR + 1; /* the service is about to begin anew */
+    write_or_stop(&c, message);
+    if (turn == 13 && frame / 16 % 2 == 0)
+        make_type_3(message, second);
+}
+
+/* What the receiver stored of it. */
+static void received_in_hours(unsigned number, const uint8_t message[MESSAGE_BYTES], uint8_t frame[FRAME_BYTES])
+{
+    uint8_t changed[MESSAGE_BYTES];
+
+    memcpy(changed, message, MESSAGE_BYTES);
+    if (number == 365)
+        flip(changed, 100); /* a wrong check under right parity */
+    ref_encode(changed, number == 230 || number == 231 ? OTHER_PRN : PRN, number == 350 ? 0x20 : 0, frame);
+    if (number >= 100 && number < 105) /* a burst of noise */
+        for (unsigned i = 0; i < 1 + scatter(number, 6, 12); i++)
+            flip(frame, 28 + scatter(number, 20 + i, 972));
+    if (number == 60 || number == LAST_CLOCKS) /* single wrong symbols */
+        flip(frame, 28 + scatter(number, 7, 972));
+    if (number == 550) /* lock lost */
+        for (unsigned i = 0; i < FRAME_BYTES; i++)
+            frame[i] = (uint8_t)scatter(number, 100 + i, 256);
+}
+
+static void make_hours(const char *folder)
+{
+    FILE *out = create(folder, "night-1.log");
+    uint8_t message[MESSAGE_BYTES], frame[FRAME_BYTES];
+
+    night = &hours;
+    next_orbit = 0;
+    for (unsigned number = 0; number <= FRAMES; number++) {
+        unsigned from = 0, to = FRAME_BYTES;
+        sent_in_hours(number, message);
+        received_in_hours(number, message, frame);
+        if (number >= GAP_FROM && number < GAP_TO)
+            continue;
+        if (number == TORN)
+            to = 80;
+        if (number == TORN + 1)
+            from = 30;
+        if (number == BYTE_LOST)
+            to = FRAME_BYTES - 1;
+        if (number == FRAMES)
+            to = 57;
+        if (number == TOO_MANY)
+            fwrite("\x00\xEB\x90", 1, 3, out);
+        if (number == ROTATED) {
+            from = 61;
+            fwrite(frame, 1, from, out);
+            finish(out);
+            out = create(folder, "night-2.log");
+        }
+        fwrite(frame + from, 1, to - from, out);
+    }
+    finish(out);
+    night = &minutes;
 }
 
 static void put_message(FILE *out, const struct contents *c)
@@ -356,20 +493,23 @@ static void make_messages(const char *folder)
     finish(out);
 }
 
-static void make_issues(const char *folder)
+/* The issues as of a second of a night. */
+static void make_issues(const char *folder, const char *name, const struct night *of, unsigned second)
 {
-    FILE *out = create(folder, "issues.txt");
+    FILE *out = create(folder, name);
     static const char letters[] = "?CGER";
     uint8_t slots[MOST];
-    unsigned n = slots_at(SECONDS, slots);
+    unsigned n;
 
+    night = of;
+    n = slots_at(second, slots);
     fprintf(out, "# Issues of the broadcast messages, as received that night.\n");
     fprintf(out, "# BeiDou: CNAV1 IODC. GPS: LNAV IODC. Galileo: I/NAV IODNav. GLONASS: L1OCd Tb.\n\n");
     for (unsigned i = 0; i < n; i++) {
         unsigned slot = slots[i];
         unsigned system = slot <= 63 ? 1 : slot <= 100 ? 2 : slot <= 137 ? 3 : 4;
         unsigned number = slot - (unsigned[]){ 0, 0, 63, 100, 137 }[system];
-        unsigned issue = iodn_of(slot);
+        unsigned issue = iodn_of(slot, second);
         if (slot == 25 || slot == 81 || slot == 90) /* not received */
             continue;
         if (slot == 41 || slot == 66) /* still the older one */
@@ -379,6 +519,7 @@ static void make_issues(const char *folder)
         fprintf(out, "%c%02u %u\n", letters[system], number, issue);
     }
     finish(out);
+    night = &minutes;
 }
 
 int main(int argc, char **argv)
@@ -389,6 +530,8 @@ int main(int argc, char **argv)
     }
     make_log(argv[1]);
     make_messages(argv[1]);
-    make_issues(argv[1]);
+    make_issues(argv[1], "issues.txt", &minutes, SECONDS);
+    make_hours(argv[1]);
+    make_issues(argv[1], "night-issues.txt", &hours, APART * FRAMES);
     return 0;
 }

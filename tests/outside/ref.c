@@ -67,7 +67,7 @@ static const uint8_t factor[GROUPS][4] = {
     { 15, 1, 42, 45 }, { 11, 60, 6, 49 }, { 22, 15, 12, 33 },
 };
 
-enum { FRAME_HEAD_BITS = 28, CODED_BIT = FRAME_HEAD_BITS, SYNC = 0xEB90, LAST_EPOCH = 86399 };
+enum { FRAME_HEAD_BITS = 28, CODED_BIT = FRAME_HEAD_BITS, SYNC = 0xEB90, LAST_EPOCH = 86399, EPOCH_BITS = (1 << 17) - 1 };
 
 /* ---- bits ---- */
 
@@ -648,13 +648,14 @@ static void take_mask(struct ledger *ledger, const struct mask *mask)
             ledger->slot_at[++ledger->places] = (uint8_t)slot;
 }
 
-static void take_clock(struct ledger *ledger, unsigned slot, bool by_place, uint8_t iod_ssr,
+static void take_clock(struct ledger *ledger, unsigned slot, bool by_place, const struct clock_part *part,
                        const struct clock_record *record)
 {
     struct held_clock *held = &ledger->clock[slot];
     held->held = true;
     held->by_place = by_place;
-    held->iod_ssr = iod_ssr;
+    held->epoch = part->epoch & EPOCH_BITS;
+    held->iod_ssr = part->iod_ssr;
     held->iod_corr = record->iod_corr;
     held->c0 = record->c0;
 }
@@ -666,6 +667,7 @@ static void take_orbits(struct ledger *ledger, const struct orbit_part *part)
         if (record->slot != 0) {
             struct held_orbit *held = &ledger->orbit[record->slot];
             held->held = true;
+            held->epoch = part->epoch & EPOCH_BITS;
             held->iod_ssr = part->iod_ssr;
             held->record = *record;
         }
@@ -707,11 +709,11 @@ unsigned ref_take_detail(struct ledger *ledger, const uint8_t *frame, size_t len
         const struct clock_record *record = &c.clocks.record[i];
         if (c.kind == 7) {
             if (record->slot != 0)
-                take_clock(ledger, record->slot, false, c.clocks.iod_ssr, record);
+                take_clock(ledger, record->slot, false, &c.clocks, record);
         } else {
             unsigned place = c.kind == 4 ? 23u * c.clocks.first + 1 + i : c.clocks.first + i;
             if (place <= ledger->places)
-                take_clock(ledger, ledger->slot_at[place], true, c.clocks.iod_ssr, record);
+                take_clock(ledger, ledger->slot_at[place], true, &c.clocks, record);
         }
     }
     take_orbits(ledger, &c.orbits);
@@ -722,6 +724,65 @@ unsigned ref_take(struct ledger *ledger, const uint8_t *frame, size_t length)
 {
     struct detail detail;
     return ref_take_detail(ledger, frame, length, &detail);
+}
+
+/* ---- torn logs, and the epochs of what was accepted ---- */
+
+/* Whether the bytes begin with a frame: sync and parity alone are looked at. */
+static bool frame_stands(const uint8_t *bytes, size_t n)
+{
+    uint8_t symbol[SYMBOLS], first;
+    if (n < FRAME_BYTES || ref_get_bits(bytes, 0, 16) != SYNC)
+        return false;
+    ref_symbols(bytes, symbol);
+    return ref_failing(symbol, &first) == 0;
+}
+
+size_t ref_next_piece(const uint8_t *bytes, size_t n)
+{
+    if (frame_stands(bytes, n))
+        return FRAME_BYTES;
+    for (size_t q = 1; q <= FRAME_BYTES && q <= n; q++)
+        if (frame_stands(bytes + q, n - q))
+            return q;
+    return n < FRAME_BYTES ? n : FRAME_BYTES;
+}
+
+bool ref_epoch(const struct contents *c, uint32_t *epoch)
+{
+    if (has_mask_part(c))
+        *epoch = c->mask.epoch;
+    else if (clock_count(c) > 0)
+        *epoch = c->clocks.epoch;
+    else if (orbit_count(c) > 0)
+        *epoch = c->orbits.epoch;
+    else
+        return false;
+    return true;
+}
+
+uint32_t ref_after(uint32_t later, uint32_t epoch) { return (later + LAST_EPOCH + 1 - epoch) % (LAST_EPOCH + 1); }
+
+unsigned ref_reason(const struct ledger *ledger, const uint16_t *issues, unsigned slot)
+{
+    const struct held_orbit *orbit = &ledger->orbit[slot];
+    const struct held_clock *clock = &ledger->clock[slot];
+    const struct orbit_record *o = &orbit->record;
+    uint8_t ssr = ledger->mask.iod_ssr;
+
+    if (!orbit->held)
+        return NO_ORBIT;
+    if (!clock->held)
+        return NO_CLOCK;
+    if (orbit->iod_ssr != ssr || clock->iod_ssr != ssr)
+        return OTHER_SSR;
+    if (o->iod_corr != clock->iod_corr)
+        return OTHER_CORR;
+    if (o->ura.kind == URA_UNKNOWN)
+        return NO_URA;
+    if (o->radial == -16384 || o->along == -4096 || o->cross == -4096 || clock->c0 == -16384)
+        return UNUSABLE;
+    return issues[slot - 1] != o->iodn ? OTHER_ISSUE : HAS_ROW;
 }
 
 /* ---- the list ---- */

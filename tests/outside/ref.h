@@ -81,15 +81,19 @@ struct contents {
     struct orbit_part orbits;
 };
 
+/* What is in force of a slot, with the epoch of the part that it came in; packed
+ * so that a ledger fits the bytes that a caller of the library lends. */
 struct held_orbit {
-    bool held;
+    uint32_t epoch : 17;
+    bool held : 1;
     uint8_t iod_ssr;
     struct orbit_record record;
 };
 
 struct held_clock {
-    bool held;
-    bool by_place;
+    uint32_t epoch : 17;
+    bool held : 1;
+    bool by_place : 1;
     uint8_t iod_ssr;
     uint8_t iod_corr;
     int16_t c0;
@@ -111,6 +115,19 @@ struct detail {
     uint8_t first;   /* failing parity group, 1 to 81 */
     uint8_t failing; /* how many of the 81 groups fail */
     uint16_t places; /* number of set bits of the mask in force */
+};
+
+/* Why a satellite of the mask in force has no row: the first that applies. */
+enum {
+    HAS_ROW,
+    NO_ORBIT,    /* none in force */
+    NO_CLOCK,    /* none in force */
+    OTHER_SSR,   /* of the orbit or the clock, than the mask's */
+    OTHER_CORR,  /* of the clock, than the orbit's */
+    NO_URA,      /* it is unknown */
+    UNUSABLE,    /* one of the four values */
+    OTHER_ISSUE, /* broadcast, than IODN; or none */
+    REASONS
 };
 
 struct row {
@@ -160,6 +177,23 @@ unsigned ref_read_frame_detail(const uint8_t *frame, size_t length, struct conte
 unsigned ref_open(struct ledger *ledger, unsigned prn);
 unsigned ref_take(struct ledger *ledger, const uint8_t *frame, size_t length);
 unsigned ref_take_detail(struct ledger *ledger, const uint8_t *frame, size_t length, struct detail *detail);
+
+/* A log whose bytes may be torn: how many of the `n` bytes that are left are the
+ * next piece, to be handed in as a frame; 0 if none are left. A frame with the
+ * right sync and all parity groups zero, whoever's it is and whatever it says, is
+ * a piece; else what stands before the first such frame, if one begins within 125
+ * bytes; else 125 bytes, or what is left. */
+size_t ref_next_piece(const uint8_t *bytes, size_t n);
+
+/* The epoch that a message carries, if it carries one; of two parts the clock
+ * part's. */
+bool ref_epoch(const struct contents *c, uint32_t *epoch);
+
+/* How long after an epoch another one is, in seconds of the day. */
+uint32_t ref_after(uint32_t later, uint32_t epoch);
+
+/* Why a slot of the mask in force has no row, against 255 good issues. */
+unsigned ref_reason(const struct ledger *ledger, const uint16_t *issues, unsigned slot);
 
 /* The list, against `n` broadcast issues, issues[k - 1] for slot k. Count and
  * all rows, in rising slot order: refusals 1, 17. Row at a position (from 1):

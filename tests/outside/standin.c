@@ -103,6 +103,8 @@ uint8_t qvd_replay_detail(uint8_t *ledger, size_t n, uint8_t prn, const uint8_t 
     return 0;
 }
 
+uint8_t qvd_next_piece(const uint8_t *bytes, size_t n) { return (uint8_t)ref_next_piece(bytes, n); }
+
 uint8_t qvd_rows(const uint8_t *ledger, size_t n, const uint16_t *issues, size_t k, uint8_t *rows, size_t r)
 {
     struct ledger l;
