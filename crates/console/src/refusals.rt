@@ -24,7 +24,7 @@ fn put_wanted(room: &mut [u8], at: usize, b: u8, wanted: bool) -> usize
 }
 
 // The line of a text with a number, from 1; nothing where there is none.
-fn put_line(room: &mut [u8], at: usize, text: &[u8], number: u8) -> usize
+pub fn put_line(room: &mut [u8], at: usize, text: &[u8], number: u8) -> usize
     ensures { λ r. ⌜ Counts r (now (room .exit)) ⌝ }
 {
     let mut n = place_in(room, at);

@@ -2,19 +2,22 @@
 ghost use Rattle.console.specs.Lines.{Inside};
 use crate::files::close_named;
 use crate::files::open_named;
+use crate::stream::least;
 use console::lines::Lines;
 use console::lines::Step;
 use console::lines::next_line;
+use console::say::say_found;
 use console::say::say_where;
 use console::words::Number;
+use console::words::after_mark;
 use console::words::next_word;
 use console::words::number_of;
 
-// What a line gives: nothing, a slot's issue, or a fault by its number.
+// What a line gives: nothing, a slot's issue, or a fault by its number, with the word that is wrong: from one position of the line to another.
 enum Given {
     Nothing,
     Issue(u8, u16),
-    Fault(u8),
+    Fault(u8, usize, usize),
 }
 
 // The slot of a satellite by its letter and number; 0 where there is none.
@@ -49,72 +52,87 @@ fn satellite(w: &[u8]) -> u8 {
     slot_of(w[0], x)
 }
 
-// The issue that the last word of a line says, from a place on.
+// Whether a line has nothing from a position on, but for a comment.
+fn is_over(s: &[u8], at: usize) -> bool {
+    let w = next_word(s, at);
+    let a = w.from;
+    let b = w.to;
+    if a == b {
+        return true;
+    }
+    console::words::starts(&s[a..b], b'#')
+}
+
+// The issue that the last word of a line says, from a position on.
 fn issue_at(s: &[u8], at: usize, slot: u8) -> Given {
     let w = next_word(s, at);
     let a = w.from;
     let b = w.to;
     let n = number_of(&s[a..b]);
     let Number::Value(x) = n else {
-        return Given::Fault(2);
+        return Given::Fault(2, a, b);
     };
     if x > 1023 {
-        return Given::Fault(2);
+        return Given::Fault(2, a, b);
     }
-    let z = next_word(s, b);
-    if z.from != z.to {
-        return Given::Fault(3);
+    if !is_over(s, b) {
+        let z = next_word(s, b);
+        return Given::Fault(3, z.from, z.to);
     }
     Given::Issue(slot, x as u16)
 }
 
-// What a line gives.
-fn line_gives(s: &[u8]) -> Given {
-    let w = next_word(s, 0);
+// What a line gives, from a position on.
+fn line_gives(s: &[u8], at: usize) -> Given {
+    let w = next_word(s, at);
     let a = w.from;
     let b = w.to;
-    if a == b {
-        return Given::Nothing;
-    }
-    if console::words::starts(&s[a..b], b'#') {
+    if is_over(s, at) {
         return Given::Nothing;
     }
     let slot = satellite(&s[a..b]);
     if slot == 0 {
-        return Given::Fault(1);
+        return Given::Fault(1, a, b);
     }
     issue_at(s, b, slot)
 }
 
-// A fault of a line, in words.
-fn say_fault(name: &[u8], number: u64, fault: u8) {
+// A fault of a line, in words, with the word that is wrong.
+fn say_fault(name: &[u8], number: u64, fault: u8, word: &[u8]) {
     if fault == 1 {
-        say_where(
+        say_found(
             b"night",
             name,
-            b"line",
             number,
             b"expected a satellite: C01 to C63, or G, E or R with 01 to 37",
+            word,
         );
         return;
     }
     if fault == 2 {
-        say_where(
+        say_found(
             b"night",
             name,
-            b"line",
             number,
             b"expected an issue, 0 to 1023",
+            word,
         );
         return;
     }
-    say_where(
+    say_found(
         b"night",
         name,
-        b"line",
         number,
         b"expected the end of the line after the issue",
+        word,
     );
+}
+
+// The fault of a line whose wrong word stands between two positions.
+fn say_fault_at(name: &[u8], number: u64, fault: u8, s: &[u8], from: usize, to: usize) {
+    let b = least(to, s.len());
+    let a = least(from, b);
+    say_fault(name, number, fault, &s[a..b]);
 }
 
 // A satellite is named a second time.
@@ -148,6 +166,11 @@ fn put_issue(
     true
 }
 
+// Where a line's text starts: behind a byte order mark in the first.
+fn start_of(s: &[u8], number: u64) -> usize {
+    if number == 1 { after_mark(s) } else { 0 }
+}
+
 // A line is taken; false where something is wrong with it, and it has been said what.
 fn take_line(
     name: &[u8],
@@ -156,12 +179,12 @@ fn take_line(
     issues: &mut [u16; 255],
     seen: &mut [u64; 255],
 ) -> bool {
-    let g = line_gives(s);
+    let g = line_gives(s, start_of(s, number));
     match g {
         Given::Nothing => true,
         Given::Issue(slot, issue) => put_issue(name, number, slot, issue, issues, seen),
-        Given::Fault(fault) => {
-            say_fault(name, number, fault);
+        Given::Fault(fault, from, to) => {
+            say_fault_at(name, number, fault, s, from, to);
             false
         }
     }
@@ -228,7 +251,7 @@ pub(crate) fn read_issues(i: usize, issues: &mut [u16; 255]) -> bool {
     if fd < 0 {
         return false;
     }
-    let mut room = io::large_buffer();
+    let mut room = console::lines::line_room();
     let mut seen = [0u64; 255];
     let good = all_lines(fd, &path[..n], &mut room, issues, &mut seen);
     close_named(fd);

@@ -1,195 +1,199 @@
-// What stands at the end: the counts, the mask in force and the list.
+// What stands at the end: the counts, the mask in force, the epochs, the list and who is absent from it, made whole before it is written.
 ghost use Rattle.io.specs.Counts.{Counts};
+use crate::fit::Found;
+use crate::options::Options;
+use console::put::place_in;
 use console::put::put_byte;
 use console::put::put_bytes;
 use console::put::put_field;
-use console::put::put_metres;
 use console::put::put_number;
-use console::put::put_two;
-use console::put::put_ura_mm;
 use console::refusals::put_refusal;
-use libc::STDOUT_FILENO;
-use list::row::Row;
-use list::row::RowAnswer;
+use libc::STDERR_FILENO;
 use list::rows::Count;
-use records::slots::System;
+use log::epochs::Epochs;
 
-// The line of the PRN.
-fn write_prn(prn: u8) {
-    let mut room = [0u8; 80];
-    let a = put_bytes(&mut room, 0, b"prn ");
-    let b = put_number(&mut room, a, prn as u64);
-    let n = put_byte(&mut room, b, 10);
-    io::write_all(STDOUT_FILENO, &room[..n]);
+// Frames refused, by how many there are and how many were taken.
+fn refused_of(all: u64, taken: u64) -> u64 {
+    if taken < all { all - taken } else { 0 }
 }
 
-// The line of the counts.
-fn write_frames(all: u64, taken: u64) {
-    let mut room = [0u8; 120];
-    let refused = if taken < all { all - taken } else { 0 };
-    let a = put_bytes(&mut room, 0, b"frames ");
-    let b = put_number(&mut room, a, all);
-    let c = put_field(&mut room, b, b"taken", taken);
-    let d = put_field(&mut room, c, b"refused", refused);
-    let n = put_byte(&mut room, d, 10);
-    io::write_all(STDOUT_FILENO, &room[..n]);
+// The lines of the PRN and of the counts.
+fn put_frames(room: &mut [u8], prn: u8, all: u64, taken: u64) -> usize
+    ensures { λ r. ⌜ Counts r (now (room .exit)) ⌝ }
+{
+    let a = put_bytes(room, 0, b"prn ");
+    let b = put_number(room, a, prn as u64);
+    let c = put_bytes(room, b, b"\nframes ");
+    let d = put_number(room, c, all);
+    let e = put_field(room, d, b"taken", taken);
+    let f = put_field(room, e, b"refused", refused_of(all, taken));
+    put_byte(room, f, 10)
 }
 
 // The line of a refusal that occurred.
-fn write_refusal(number: u8, times: u64) {
+fn put_times(room: &mut [u8], at: usize, number: u8, times: u64) -> usize
+    ensures { λ r. ⌜ Counts r (now (room .exit)) ⌝ }
+{
     if times == 0 {
-        return;
+        return place_in(room, at);
     }
-    let mut room = [0u8; 160];
-    let a = put_bytes(&mut room, 0, b"refusal ");
-    let b = put_number(&mut room, a, number as u64);
-    let c = put_next(&mut room, b, times);
-    let d = put_byte(&mut room, c, b' ');
-    let e = put_refusal(&mut room, d, number);
-    let n = put_byte(&mut room, e, 10);
-    io::write_all(STDOUT_FILENO, &room[..n]);
+    let a = put_bytes(room, at, b"refusal ");
+    let b = put_number(room, a, number as u64);
+    let c = put_byte(room, b, b' ');
+    let d = put_number(room, c, times);
+    let e = put_byte(room, d, b' ');
+    let f = put_refusal(room, e, number);
+    put_byte(room, f, 10)
 }
 
 // The lines of the refusals that occurred, rising.
-fn write_refusals(counts: &[u64; 21]) {
+fn put_refusals(room: &mut [u8], at: usize, counts: &[u64; 21]) -> usize
+    ensures { λ r. ⌜ Counts r (now (room .exit)) ⌝ }
+{
+    let mut n = place_in(room, at);
     let mut i: usize = 1;
     while i < 20 {
-        write_refusal(i as u8, counts[i]);
+        n = put_times(room, n, i as u8, counts[i]);
         i += 1;
     }
+    n
 }
 
 // The line of the mask in force.
-fn write_mask(ledger: &[u8]) {
+fn put_mask(room: &mut [u8], at: usize, ledger: &[u8]) -> usize
+    ensures { λ r. ⌜ Counts r (now (room .exit)) ⌝ }
+{
     if !held_mask::has_mask(ledger) {
-        io::write_all(STDOUT_FILENO, b"mask none\n");
-        return;
+        return put_bytes(room, at, b"mask none\n");
     }
-    let mut room = [0u8; 80];
-    let a = put_bytes(&mut room, 0, b"mask");
-    let b = put_field(&mut room, a, b"ssr", held_mask::mask_ssr(ledger) as u64);
-    let c = put_field(&mut room, b, b"iodp", held_mask::mask_iodp(ledger) as u64);
-    let d = put_field(
-        &mut room,
-        c,
-        b"satellites",
-        held_mask::set_count(ledger) as u64,
-    );
-    let n = put_byte(&mut room, d, 10);
-    io::write_all(STDOUT_FILENO, &room[..n]);
+    let a = put_bytes(room, at, b"mask");
+    let b = put_field(room, a, b"ssr", held_mask::mask_ssr(ledger) as u64);
+    let c = put_field(room, b, b"iodp", held_mask::mask_iodp(ledger) as u64);
+    let d = put_field(room, c, b"satellites", held_mask::set_count(ledger) as u64);
+    put_byte(room, d, 10)
 }
 
-// The letter of a system.
-fn letter_of(s: System) -> u8 {
-    match s {
-        System::Reserved => b'?',
-        System::BeiDou => b'C',
-        System::Gps => b'G',
-        System::Galileo => b'E',
-        System::Glonass => b'R',
+// The first and the last epoch.
+fn put_ends(room: &mut [u8], at: usize, e: Epochs) -> usize
+    ensures { λ r. ⌜ Counts r (now (room .exit)) ⌝ }
+{
+    let a = put_field(room, at, b"first", e.first as u64);
+    put_field(room, a, b"last", e.last as u64)
+}
+
+// The line of the epochs, where there are any.
+fn put_some_epochs(room: &mut [u8], at: usize, e: Epochs) -> usize
+    ensures { λ r. ⌜ Counts r (now (room .exit)) ⌝ }
+{
+    let a = put_bytes(room, at, b"epochs");
+    let b = put_ends(room, a, e);
+    let c = put_field(room, b, b"longest-gap", e.gap as u64);
+    let d = put_field(room, c, b"frames-since", e.since);
+    put_byte(room, d, 10)
+}
+
+// The line of the epochs of the frames taken.
+fn put_epochs(room: &mut [u8], at: usize, e: Epochs) -> usize
+    ensures { λ r. ⌜ Counts r (now (room .exit)) ⌝ }
+{
+    if e.has {
+        return put_some_epochs(room, at, e);
     }
+    put_bytes(room, at, b"epochs none\n")
 }
 
-// A blank and metres.
-fn put_length(room: &mut [u8], at: usize, tenths: i32) -> usize
+// The line of a number under a word.
+fn put_count(room: &mut [u8], at: usize, word: &[u8], n: u64) -> usize
     ensures { λ r. ⌜ Counts r (now (room .exit)) ⌝ }
 {
-    let a = put_byte(room, at, b' ');
-    put_metres(room, a, tenths)
+    let a = put_bytes(room, at, word);
+    let b = put_byte(room, a, b' ');
+    let c = put_number(room, b, n);
+    put_byte(room, c, 10)
 }
 
-// A blank and a number.
-fn put_next(room: &mut [u8], at: usize, x: u64) -> usize
+// The satellites of the mask in force that have no row: how many, and a table of them unless there is none.
+fn put_absent(room: &mut [u8], at: usize, ledger: &[u8], issues: &[u16; 255]) -> usize
     ensures { λ r. ⌜ Counts r (now (room .exit)) ⌝ }
 {
-    let a = put_byte(room, at, b' ');
-    put_number(room, a, x)
-}
-
-// A blank and a satellite as RINEX names it.
-fn put_satellite(room: &mut [u8], at: usize, system: System, number: u8) -> usize
-    ensures { λ r. ⌜ Counts r (now (room .exit)) ⌝ }
-{
-    let a = put_byte(room, at, b' ');
-    let b = put_byte(room, a, letter_of(system));
-    put_two(room, b, number as u64)
-}
-
-// The start of a row: slot, satellite, IODN and IOD Corr.
-fn put_who(room: &mut [u8], r: Row) -> usize
-    ensures { λ r. ⌜ Counts r (now (room .exit)) ⌝ }
-{
-    let slot = r.slot;
-    let system = r.system;
-    let a = put_number(room, 0, slot.0 as u64);
-    let b = put_satellite(room, a, system, r.number);
-    let c = put_next(room, b, r.iodn as u64);
-    put_next(room, c, r.corr as u64)
-}
-
-// The values of a row: orbit and clock in metres.
-fn put_values(room: &mut [u8], at: usize, r: Row) -> usize
-    ensures { λ r. ⌜ Counts r (now (room .exit)) ⌝ }
-{
-    let a = put_length(room, at, r.radial);
-    let b = put_length(room, a, r.along);
-    let c = put_length(room, b, r.cross);
-    put_length(room, c, r.clock)
-}
-
-// The line of a row.
-fn write_row(r: Row) {
-    let mut room = [0u8; 160];
-    let ura = r.ura;
-    let a = put_who(&mut room, r);
-    let b = put_values(&mut room, a, r);
-    let c = put_byte(&mut room, b, b' ');
-    let d = put_ura_mm(&mut room, c, ura);
-    let n = put_byte(&mut room, d, 10);
-    io::write_all(STDOUT_FILENO, &room[..n]);
-}
-
-// The line of the n-th row.
-fn write_nth(ledger: &[u8], issues: &[u16], n: u16) {
-    let a = list::rows::row_at(ledger, issues, n);
-    let RowAnswer::Found(r) = a else {
-        return;
-    };
-    write_row(r);
-}
-
-// The lines of the rows.
-fn write_rows(ledger: &[u8], issues: &[u16], count: u16) {
-    let mut k: u16 = 0;
-    while k < count {
-        write_nth(ledger, issues, k + 1);
-        k += 1;
+    let k = crate::rows::absent_count(ledger, issues);
+    let n = put_count(room, at, b"absent", k as u64);
+    if k == 0 {
+        return n;
     }
+    crate::rows::put_absent(room, n, ledger, issues)
 }
 
-// The line of the number of rows, and the rows.
-fn write_list(ledger: &[u8], issues: &[u16]) {
+// The list, and the satellites of the mask that are not in it.
+fn put_list(room: &mut [u8], at: usize, ledger: &[u8], issues: &[u16; 255], rows: u32) -> usize
+    ensures { λ r. ⌜ Counts r (now (room .exit)) ⌝ }
+{
+    let a = put_count(room, at, b"rows", rows as u64);
+    let b = crate::rows::put_table(room, a, ledger, issues);
+    put_absent(room, b, ledger, issues)
+}
+
+// How many rows there are.
+fn row_count(ledger: &[u8], issues: &[u16; 255]) -> u32 {
     let a = list::rows::row_count(ledger, issues);
-    let Count::Rows(count) = a else {
-        return;
+    let Count::Rows(n) = a else {
+        return 0;
     };
-    let mut room = [0u8; 80];
-    let b = put_bytes(&mut room, 0, b"rows ");
-    let c = put_number(&mut room, b, count as u64);
-    let n = put_byte(&mut room, c, 10);
-    io::write_all(STDOUT_FILENO, &room[..n]);
-    io::write_all(
-        STDOUT_FILENO,
-        b"slot sat iodn corr radial_m along_m cross_m clock_m ura_mm\n",
-    );
-    write_rows(ledger, issues, count);
+    n as u32
 }
 
-// The whole report.
-pub(crate) fn report(prn: u8, ledger: &[u8; 9440], issues: &[u16; 255], counts: &[u64; 21]) {
-    write_prn(prn);
-    write_frames(counts[20], counts[0]);
-    write_refusals(counts);
-    write_mask(ledger);
-    write_list(ledger, issues);
+// What the limits are held against.
+fn what_was_found(ledger: &[u8], issues: &[u16; 255], counts: &[u64; 21], e: Epochs) -> Found {
+    let all = counts[20];
+    Found {
+        rows: row_count(ledger, issues),
+        refused: refused_of(all, counts[0]),
+        all,
+        age: crate::fit::oldest(ledger, issues, e),
+        gap: e.gap,
+    }
+}
+
+// The status of a night: 3 where a limit does not hold.
+fn status_of(f: Found, o: Options) -> u8 {
+    if crate::fit::is_unfit(f, o) { 3 } else { 0 }
+}
+
+// The table of the rows alone; limits that do not hold are said on standard error. The answer is the status.
+fn write_csv(ledger: &[u8], issues: &[u16; 255], f: Found, o: Options) -> u8 {
+    let mut room = io::large_buffer();
+    let n = crate::rows::put_csv(&mut room, ledger, issues);
+    if !console::out::write(b"night", &room[..n]) {
+        return 1;
+    }
+    let mut said = [0u8; 400];
+    let k = crate::fit::put_unfit(&mut said, 0, f, o);
+    io::write_all(STDERR_FILENO, &said[..k]);
+    status_of(f, o)
+}
+
+// The whole report, in one piece. The answer is the status.
+pub(crate) fn report(
+    prn: u8,
+    ledger: &[u8; 9440],
+    issues: &[u16; 255],
+    counts: &[u64; 21],
+    e: Epochs,
+    o: Options,
+) -> u8 {
+    let f = what_was_found(ledger, issues, counts, e);
+    if o.csv {
+        return write_csv(ledger, issues, f, o);
+    }
+    let mut room = io::large_buffer();
+    let a = put_frames(&mut room, prn, counts[20], counts[0]);
+    let b = put_refusals(&mut room, a, counts);
+    let c = put_mask(&mut room, b, ledger);
+    let d = put_epochs(&mut room, c, e);
+    let g = put_list(&mut room, d, ledger, issues, f.rows);
+    let n = crate::fit::put_unfit(&mut room, g, f, o);
+    if !console::out::write(b"night", &room[..n]) {
+        return 1;
+    }
+    status_of(f, o)
 }

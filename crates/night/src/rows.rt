@@ -1,0 +1,235 @@
+// The two tables of the report: the rows, and the satellites of the mask that have none.
+ghost use Rattle.io.specs.Counts.{Counts};
+use absent::Why;
+use console::put::place_in;
+use console::put::put_byte;
+use console::put::put_bytes;
+use console::put::put_metres;
+use console::put::put_number;
+use console::put::put_two;
+use console::put::put_ura_mm;
+use list::row::Row;
+use list::row::RowAnswer;
+use list::row::slot_row;
+use records::slots::Slot;
+use records::slots::System;
+use records::slots::satellite_of;
+
+// The letter of a system.
+fn letter_of(s: System) -> u8 {
+    match s {
+        System::Reserved => b'?',
+        System::BeiDou => b'C',
+        System::Gps => b'G',
+        System::Galileo => b'E',
+        System::Glonass => b'R',
+    }
+}
+
+// A separator and metres.
+fn put_length(room: &mut [u8], at: usize, by: u8, tenths: i32) -> usize
+    ensures { λ r. ⌜ Counts r (now (room .exit)) ⌝ }
+{
+    let a = put_byte(room, at, by);
+    put_metres(room, a, tenths)
+}
+
+// A separator and a number.
+fn put_next(room: &mut [u8], at: usize, by: u8, x: u64) -> usize
+    ensures { λ r. ⌜ Counts r (now (room .exit)) ⌝ }
+{
+    let a = put_byte(room, at, by);
+    put_number(room, a, x)
+}
+
+// A slot, a separator and its satellite as RINEX names it.
+fn put_satellite(room: &mut [u8], at: usize, by: u8, slot: Slot) -> usize
+    ensures { λ r. ⌜ Counts r (now (room .exit)) ⌝ }
+{
+    let s = satellite_of(slot);
+    let system = s.system;
+    let a = put_number(room, at, slot.0 as u64);
+    let b = put_byte(room, a, by);
+    let c = put_byte(room, b, letter_of(system));
+    put_two(room, c, s.number as u64)
+}
+
+// The values of a row: orbit and clock in metres.
+fn put_values(room: &mut [u8], at: usize, by: u8, r: Row) -> usize
+    ensures { λ r. ⌜ Counts r (now (room .exit)) ⌝ }
+{
+    let a = put_length(room, at, by, r.radial);
+    let b = put_length(room, a, by, r.along);
+    let c = put_length(room, b, by, r.cross);
+    put_length(room, c, by, r.clock)
+}
+
+// A row, without its epochs.
+fn put_row(room: &mut [u8], at: usize, by: u8, r: Row) -> usize
+    ensures { λ r. ⌜ Counts r (now (room .exit)) ⌝ }
+{
+    let slot = r.slot;
+    let ura = r.ura;
+    let a = put_satellite(room, at, by, slot);
+    let b = put_next(room, a, by, r.iodn as u64);
+    let c = put_next(room, b, by, r.corr as u64);
+    let d = put_values(room, c, by, r);
+    let e = put_byte(room, d, by);
+    put_ura_mm(room, e, ura)
+}
+
+// The issue of a slot.
+fn issue_of(issues: &[u16; 255], slot: u8) -> u16 {
+    if slot == 0 {
+        return 65535;
+    }
+    issues[(slot - 1) as usize]
+}
+
+// The line of a slot's row, if it has one.
+fn put_slot_row(room: &mut [u8], at: usize, by: u8, ledger: &[u8], issue: u16, slot: u8) -> usize
+    ensures { λ r. ⌜ Counts r (now (room .exit)) ⌝ }
+{
+    let answer = slot_row(ledger, Slot(slot), issue);
+    let RowAnswer::Found(r) = answer else {
+        return place_in(room, at);
+    };
+    let orbit = held_orbits::get_orbit(ledger, slot);
+    let clock = held_clocks::get_clock(ledger, slot);
+    let a = put_row(room, at, by, r);
+    let b = put_next(room, a, by, orbit.epoch as u64);
+    let c = put_next(room, b, by, clock.epoch as u64);
+    put_byte(room, c, 10)
+}
+
+// The table's head, with blanks.
+fn put_head(room: &mut [u8], at: usize) -> usize
+    ensures { λ r. ⌜ Counts r (now (room .exit)) ⌝ }
+{
+    put_bytes(
+        room,
+        at,
+        b"slot sat iodn corr radial_m along_m cross_m clock_m ura_mm orbit_s clock_s\n",
+    )
+}
+
+// The same with commas.
+fn put_head_csv(room: &mut [u8], at: usize) -> usize
+    ensures { λ r. ⌜ Counts r (now (room .exit)) ⌝ }
+{
+    put_bytes(
+        room,
+        at,
+        b"slot,sat,iodn,corr,radial_m,along_m,cross_m,clock_m,ura_mm,orbit_s,clock_s\n",
+    )
+}
+
+// The lines of the rows, in rising slot order.
+fn put_lines(room: &mut [u8], at: usize, by: u8, ledger: &[u8], issues: &[u16; 255]) -> usize
+    ensures { λ r. ⌜ Counts r (now (room .exit)) ⌝ }
+{
+    let mut n = place_in(room, at);
+    let mut slot: u8 = 0;
+    while slot < 255 {
+        slot += 1;
+        n = put_slot_row(room, n, by, ledger, issue_of(issues, slot), slot);
+    }
+    n
+}
+
+// The table of the rows, with blanks.
+pub(crate) fn put_table(room: &mut [u8], at: usize, ledger: &[u8], issues: &[u16; 255]) -> usize
+    ensures { λ r. ⌜ Counts r (now (room .exit)) ⌝ }
+{
+    let a = put_head(room, at);
+    put_lines(room, a, b' ', ledger, issues)
+}
+
+// The table of the rows, with commas.
+pub(crate) fn put_csv(room: &mut [u8], ledger: &[u8], issues: &[u16; 255]) -> usize
+    ensures { λ r. ⌜ Counts r (now (room .exit)) ⌝ }
+{
+    let a = put_head_csv(room, 0);
+    put_lines(room, a, b',', ledger, issues)
+}
+
+// Whether a satellite of the mask in force has no row.
+fn is_absent(ledger: &[u8], issue: u16, slot: u8) -> bool {
+    if !held_mask::has_mask(ledger) {
+        return false;
+    }
+    if !held_mask::has_bit(ledger, Slot(slot)) {
+        return false;
+    }
+    let answer = slot_row(ledger, Slot(slot), issue);
+    let RowAnswer::Found(_) = answer else {
+        return true;
+    };
+    false
+}
+
+// How many satellites of the mask in force have no row.
+pub(crate) fn absent_count(ledger: &[u8], issues: &[u16; 255]) -> u16 {
+    let mut n: u16 = 0;
+    let mut slot: u8 = 0;
+    while slot < 255 {
+        slot += 1;
+        if is_absent(ledger, issue_of(issues, slot), slot) {
+            n = n % 1000 + 1;
+        }
+    }
+    n
+}
+
+// Why there is no row, in a word.
+fn put_why(room: &mut [u8], at: usize, why: Why) -> usize
+    ensures { λ r. ⌜ Counts r (now (room .exit)) ⌝ }
+{
+    console::refusals::put_line(
+        room,
+        at,
+        b"listed\norbit\nclock\nssr\ncorr\nura\nunusable\nissue\n",
+        why_line(why),
+    )
+}
+
+// The line of a reason among all.
+fn why_line(why: Why) -> u8 {
+    match why {
+        Why::Listed => 1,
+        Why::Orbit => 2,
+        Why::Clock => 3,
+        Why::Ssr => 4,
+        Why::Corr => 5,
+        Why::Ura => 6,
+        Why::Unusable => 7,
+        Why::Issue => 8,
+    }
+}
+
+// The line of a satellite, if it is absent.
+fn put_slot_absent(room: &mut [u8], at: usize, ledger: &[u8], issue: u16, slot: u8) -> usize
+    ensures { λ r. ⌜ Counts r (now (room .exit)) ⌝ }
+{
+    if !is_absent(ledger, issue, slot) {
+        return place_in(room, at);
+    }
+    let why = absent::why_absent(ledger, Slot(slot), issue);
+    let a = put_satellite(room, at, b' ', Slot(slot));
+    let b = put_byte(room, a, b' ');
+    let c = put_why(room, b, why);
+    put_byte(room, c, 10)
+}
+
+// The table of the satellites of the mask in force that have no row, in rising slot order.
+pub(crate) fn put_absent(room: &mut [u8], at: usize, ledger: &[u8], issues: &[u16; 255]) -> usize
+    ensures { λ r. ⌜ Counts r (now (room .exit)) ⌝ }
+{
+    let mut n = put_bytes(room, at, b"slot sat why\n");
+    let mut slot: u8 = 0;
+    while slot < 255 {
+        slot += 1;
+        n = put_slot_absent(room, n, ledger, issue_of(issues, slot), slot);
+    }
+    n
+}
