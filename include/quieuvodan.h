@@ -12,7 +12,7 @@
  * Every function is total: for any bytes it ends, and answers QVD_TAKEN or one
  * refusal number, the lowest that applies. That number is what it returns, save
  * that qvd_take_detail and qvd_read_frame_detail put more above it for two of the
- * refusals. A refusal leaves all that was lent as it was, every byte of it,
+ * refusals, and that qvd_next_piece answers a number of bytes. A refusal leaves all that was lent as it was, every byte of it,
  * whichever function refuses and with whatever number.
  *
  * QVD_LENGTH comes before all others: a ledger, a form or a room that is not as
@@ -158,6 +158,23 @@ uint8_t qvd_replay(uint8_t *ledger, size_t n, uint8_t prn, const uint8_t *log, s
 /* As qvd_replay, with what qvd_take_detail would return for each frame. 4, 39. */
 uint8_t qvd_replay_detail(uint8_t *ledger, size_t n, uint8_t prn, const uint8_t *log, size_t m,
                           uint32_t *details, size_t k);
+
+/* Finds the next piece of a log in the n bytes that are left: how many of them to
+ * hand in as the next frame, 1 to 125, or 0 where n is 0. Frames are found by their
+ * sync and their parity: if a frame with sync 0xEB90 and all 81 parity groups zero
+ * begins at the first byte, it is 125; else it is the number of bytes before the
+ * first such frame that begins 1 to 125 bytes on; else 125, or n where that is less.
+ * Every byte is then in exactly one piece, in order, and a good frame that no
+ * earlier good frame overlaps is handed in whole, wherever it stands. A piece that
+ * is no whole frame is refused: one that is not 125 bytes long with 1. A log of
+ * whole frames is cut as qvd_replay cuts it.
+ * The first 250 bytes decide: a buffer that is refilled from a file needs to hold
+ * no more, and must hold as many while the log has them.
+ *     for (size_t at = 0; at < m; at += n) {
+ *         n = qvd_next_piece(log + at, m - at);
+ *         refusal = qvd_take(ledger, QVD_LEDGER_BYTES, log + at, n);
+ *     } */
+uint8_t qvd_next_piece(const uint8_t *bytes, size_t n);
 
 /* Gives the rows of all slots that qualify, one after the other in rising slot
  * order, then zeros; r is QVD_ROWS_BYTES. A row's first byte, its slot, is 1 to
