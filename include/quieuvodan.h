@@ -160,12 +160,21 @@ uint8_t qvd_replay(uint8_t *ledger, size_t n, uint8_t prn, const uint8_t *log, s
 uint8_t qvd_replay_detail(uint8_t *ledger, size_t n, uint8_t prn, const uint8_t *log, size_t m,
                           uint32_t *details, size_t k);
 
-/* The length of the next piece of a log of which n bytes are left, 0 for none. Of
- * a log that has lost bytes, or has some too many, the pieces are what qvd_take is
- * to be handed: a frame with the right sync and all parity groups zero is one, of
- * 125 bytes; else it is what stands before the first such frame, if one begins
- * within the next 125 bytes; else the next 125 bytes, or what is left. Hand in at
- * least 250 bytes unless the log ends before: so much decides the answer. */
+/* Finds the next piece of a log in the n bytes that are left: how many of them to
+ * hand in as the next frame, 1 to 125, or 0 where n is 0. Frames are found by their
+ * sync and their parity: if a frame with sync 0xEB90 and all 81 parity groups zero
+ * begins at the first byte, it is 125; else it is the number of bytes before the
+ * first such frame that begins 1 to 125 bytes on; else 125, or n where that is less.
+ * Every byte is then in exactly one piece, in order, and a good frame that no
+ * earlier good frame overlaps is handed in whole, wherever it stands. A piece that
+ * is no whole frame is refused: one that is not 125 bytes long with 1. A log of
+ * whole frames is cut as qvd_replay cuts it.
+ * The first 250 bytes decide: a buffer that is refilled from a file needs to hold
+ * no more, and must hold as many while the log has them.
+ *     for (size_t at = 0; at < m; at += n) {
+ *         n = qvd_next_piece(log + at, m - at);
+ *         refusal = qvd_take(ledger, QVD_LEDGER_BYTES, log + at, n);
+ *     } */
 uint8_t qvd_next_piece(const uint8_t *bytes, size_t n);
 
 /* Gives the rows of all slots that qualify, one after the other in rising slot

@@ -1,19 +1,19 @@
 -- The next piece by the ledger's answer to the next 125 bytes.
 use mathlib.Core.Path.{_≡_, refl, sym, ap, _∙_}
 use mathlib.Core.Logic.{_≢_}
-use mathlib.Core.Bool.{Bool, true, false, not, true≢false, _&&_, _||_}
-use mathlib.Core.List.{List, [], _∷_}
+use mathlib.Core.Bool.{Bool, true, false, true≢false, _||_}
+use mathlib.Core.List.{List}
 use Prim.Native.Nat.{ℕ, _≤_, _<_}
 use native.Mathlib.Omega.{arith}
 use borrow.Author.Tests.{eq-eqb, ne-eqb, le-ltb}
 use lib.Dec.{eqb, ltb}
 use lib.ListN.{length, take, length-take}
-use lib.Seq.{take-all, length-take-le}
+use lib.Seq.{length-take-le}
 use Rattle.bits.specs.Pick.{pick}
 use Rattle.bits.specs.Bits.{bitAt, fieldAt}
 use Rattle.parity.specs.Parity.{parityOk}
 use Rattle.verdict.specs.declared.Verdict.the-variants.{Refused}
-use Rattle.frame.specs.Frame.{contentsOf, foreignTo, shellRefusal, refusalWith, verdictFor, shellFor}
+use Rattle.frame.specs.Frame.{contentsOf, foreignTo, shellRefusal, refusalWith, verdictFor}
 use Rattle.frame.proofs.FrameLaws.{leading}
 use Rattle.judge.specs.Judge.{refusalOf}
 use Rattle.in_force.specs.Bytes.{prnAt, takeRefusal, takeVerdict, takeBytes}
@@ -52,10 +52,7 @@ module _ (t f : List ℕ) (long : length f ≡ 125) where
   unfolding shellRefusal
   no-parity e p = rw (eq-eqb (length f) 125 long, e, p)
 
-  -- the answer is none of 3 to 6
-  far : ℕ → Bool
-  far n = ltb n 3 || ltb 6 n
-
+  -- an answer of 3 to 6
   near : (n : ℕ) → 3 ≤ n → n ≤ 6 → ltb n 3 || ltb 6 n ≡ false
   near n l u = rw (le-ltb n 3 l, le-ltb 6 n u)
 

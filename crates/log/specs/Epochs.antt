@@ -1,6 +1,6 @@
 -- The epochs of a log's accepted frames: the first, the last, the longest gap, and how many frames came after the last.
-use Prim.Native.Nat.{ℕ, _+_, _-_, _%_, _^_, max}
-use mathlib.Core.Bool.{Bool, true, false, _&&_, _||_}
+use Prim.Native.Nat.{ℕ, _+_, _-_, _%_, _^_}
+use mathlib.Core.Bool.{true, false, _&&_, _||_}
 use mathlib.Core.List.{List}
 use mathlib.Core.Option.{Option, none, some}
 use lib.Dec.{eqb, ltb}

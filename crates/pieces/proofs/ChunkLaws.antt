@@ -1,18 +1,18 @@
 -- A log of whole frames is cut into chunks of 125 bytes, and so is every log in which no frame begins inside a chunk that is none.
 use mathlib.Core.Path.{_≡_, refl, sym, ap, ap₂, _∙_}
-use mathlib.Core.Logic.{_⊎_, inl, inr, ⊎-elim, dite}
+use mathlib.Core.Logic.{inl, inr, ⊎-elim, dite}
 use mathlib.Core.Bool.{Bool, true, false}
-use mathlib.Core.List.{List, [], _∷_, _++_}
-use Prim.Native.Nat.{ℕ, zero, suc, _+_, _-_, _*_, _/_, _≤_, _<_, min}
+use mathlib.Core.List.{List, _∷_}
+use Prim.Native.Nat.{ℕ, zero, suc, _+_, _*_, _/_, _≤_, _<_, min}
 use native.Mathlib.Decide.{decLe}
 use native.Mathlib.Omega.{arith}
 use lib.ListN.{length, take, drop, length-drop, drop-of-length-le}
 use lib.Seq.{drop-drop, take-all}
 use Rattle.bits.specs.Table.{table}
 use Rattle.bits.proofs.TableLaws.{table-ext}
-use Rattle.pieces.specs.Pieces.{standsAt, pieceFrom, pieceLength}
+use Rattle.pieces.specs.Pieces.{standsAt, pieceLength}
 use Rattle.pieces.specs.Cut.{cut, chunkAt, chunks, InStep}
-use Rattle.pieces.proofs.PieceLaws.{none-stands, stands-within, at-start, searched, from-none, piece-rest}
+use Rattle.pieces.proofs.PieceLaws.{none-stands, stands-within, at-start, searched, from-none}
 use Rattle.pieces.proofs.CutLaws.{cut-step, cut-end}
 use Rattle.pieces.proofs.WholeLaws.{stands-drop}
 

@@ -6,7 +6,7 @@ use native.Mathlib.Omega.{arith}
 use lib.ListN.{length, take, drop, length-take, length-drop, take-append-drop}
 use Rattle.pieces.specs.Pieces.{pieceLength}
 use Rattle.pieces.specs.Cut.{cutTo, cut, joined, Sized, InPieces}
-use Rattle.pieces.proofs.PieceLaws.{piece-most, piece-within, piece-some}
+use Rattle.pieces.proofs.PieceLaws.{piece-most, piece-some}
 
 -- one piece less is shorter
 shorter : (s : List ℕ) (n : ℕ) → 1 ≤ length s → length s ≤ suc n → length (drop (pieceLength s) s) ≤ n

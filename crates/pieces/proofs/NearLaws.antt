@@ -1,12 +1,10 @@
 -- A window of 250 bytes decides the next piece: constant memory is enough for any log.
-use mathlib.Core.Path.{_≡_, refl, sym, ap, _∙_}
-use mathlib.Core.Bool.{Bool}
+use mathlib.Core.Path.{_≡_, refl, ap, _∙_}
 use mathlib.Core.List.{List, [], _∷_}
-use Prim.Native.Nat.{ℕ, zero, suc, _+_, _-_, _≤_, min}
+use Prim.Native.Nat.{ℕ, zero, suc, _+_, _-_, _≤_}
 use native.Mathlib.Omega.{arith}
-use lib.ListN.{length, take, drop, length-take}
+use lib.ListN.{take, drop, length-take}
 use lib.Seq.{take-take}
-use Rattle.bits.specs.Pick.{pick}
 use Rattle.pieces.specs.Pieces.{isFrame, standsAt, pieceFrom, pieceLength}
 
 -- what is dropped of what is taken

@@ -1,19 +1,15 @@
 -- A frame that no earlier frame overlaps is handed in whole, wherever it stands.
-use mathlib.Core.Path.{_≡_, refl, sym, ap, ap₂, subst, _∙_}
+use mathlib.Core.Path.{_≡_, refl, sym, ap, ap₂, _∙_}
 use mathlib.Core.Logic.{dite}
-use mathlib.Core.Bool.{Bool, true, false, true≢false, _&&_}
-use mathlib.Core.List.{List, [], _∷_, _++_, append-assoc}
-use Prim.Native.Nat.{ℕ, zero, suc, _+_, _-_, _≤_, _<_, min}
+use mathlib.Core.Bool.{Bool, true, false, true≢false}
+use mathlib.Core.List.{List, [], _∷_, _++_}
+use Prim.Native.Nat.{ℕ, zero, suc, _+_, _≤_}
 use native.Mathlib.Decide.{decLe, ℕ-discrete}
-use native.Mathlib.Nat.{add-zero}
 use native.Mathlib.Omega.{arith}
 use borrow.Author.Tests.{ne-eqb}
-use lib.Dec.{eqb}
-use lib.ListN.{length, take, drop, length-append, length-take, length-drop, take-append-drop}
-use lib.Seq.{take-at, drop-at, drop-append-seam, take-append-le, drop-append-le, drop-drop, take-take}
-use Rattle.bits.specs.Bits.{fieldAt}
-use Rattle.parity.specs.Parity.{parityOk}
-use Rattle.pieces.specs.Pieces.{isFrame, standsAt, pieceFrom, pieceLength}
+use lib.ListN.{length, take, drop, length-append, length-drop, take-append-drop}
+use lib.Seq.{take-at, drop-at, drop-append-seam, take-append-le, drop-append-le, drop-drop}
+use Rattle.pieces.specs.Pieces.{isFrame, standsAt, pieceLength}
 use Rattle.pieces.specs.Cut.{cut, joined, Clear, HandedWhole}
 use Rattle.pieces.proofs.PieceLaws.{at-start, searched, from-before, piece-most, piece-some}
 use Rattle.pieces.proofs.CutLaws.{cut-step}

@@ -1,7 +1,6 @@
 // The next piece of a log: frames are found by their sync and their parity, not counted off.
 ghost use mathlib.Core.Path.{_≡_};
 ghost use Prim.Native.Nat.{_≤_, min};
-ghost use lib.ListN.{length};
 ghost use Rattle.pieces.specs.Pieces.{isFrame, standsAt, pieceLength};
 
 // Whether bytes are a frame with the right sync whose parity groups are all zero. The sync is looked at first.

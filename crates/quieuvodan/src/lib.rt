@@ -4,6 +4,7 @@ ghost use Prim.Native.Nat.{_+_, _*_, _/_, _<_};
 ghost use lib.ListN.{length};
 ghost use Rattle.bits.specs.Bytes.{storeAt};
 ghost use Rattle.verdict.specs.Verdict.{numberOf};
+ghost use Rattle.pieces.specs.Pieces.{pieceLength};
 ghost use Rattle.in_force.specs.Bytes.{takeVerdict, takeBytes, frameAt, runBytes, framesOf};
 ghost use Rattle.list.specs.Rows.{foundCount, listIn};
 ghost use Rattle.boundary.specs.Size.{contentsSize, rowSize};
@@ -338,4 +339,12 @@ pub extern "C" fn qvd_d1_write(information: &[u8], subframe: &mut [u8]) -> u8
     ensures bytes { λ r. ⌜ now (subframe .exit) ≡ d1WriteRoom (now (information .entry)) (now (subframe .entry)) ⌝ }
 {
     number_of(write_subframe(subframe, information))
+}
+
+// The bytes of the next piece of a log: a frame that is found, or what stands before it.
+#[no_mangle]
+pub extern "C" fn qvd_next_piece(bytes: &[u8]) -> u8
+    ensures { λ r. ⌜ r ≡ pieceLength (now (bytes .entry)) ⌝ }
+{
+    pieces::piece_length(bytes)
 }

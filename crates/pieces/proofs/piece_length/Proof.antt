@@ -1,8 +1,8 @@
 -- What is left of the search, from p on, is what was asked.
 use borrow.Author.Needs.{needs}
 use native.Mathlib.Omega.{arith}
-use Prim.Native.Nat.{ℕ, _+_, _-_, _≤_}
-use mathlib.Core.Path.{_≡_, sym, ap, _∙_, refl}
+use Prim.Native.Nat.{_-_, _≤_}
+use mathlib.Core.Path.{_≡_, sym, _∙_, refl}
 use Rattle.pieces.specs.Pieces.{pieceFrom}
 use Rattle.pieces.proofs.PieceLaws.{from-hit, from-miss, from-end, at-start, searched}
 use Rattle.pieces.proofs.piece_length.Statement.{statement}

@@ -1,9 +1,6 @@
 use borrow.Author.Needs.{needs}
-use borrow.Author.Tests.{eq-eqb, ne-eqb, not-true, not-false}
-use Prim.Native.Nat.{ℕ}
+use borrow.Author.Tests.{ne-eqb, not-true, not-false}
 use mathlib.Core.Path.{_≡_, sym, ap, _∙_}
-use mathlib.Core.Option.{none, some}
-use Rattle.frame.specs.Frame.{contentsOf}
 use Rattle.log.specs.Epochs.{withEpoch, epochsAfter, epochBit}
 use Rattle.log.proofs.EpochLaws.{epoch-there}
 use Rattle.log.proofs.epochs.after.Statement.{statement}
