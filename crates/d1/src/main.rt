@@ -1,62 +1,74 @@
 // d1 [-w] FILE: one line for each D1 or D2 subframe of 38 bytes; with -w the subframe of each such line, on standard output.
+mod faults;
 mod fields;
 mod reading;
 mod writing;
 
+use console::args::Args;
+use console::args::own;
+use console::args::own_count;
+use console::args::own_is;
+use console::turns::status_of;
 use libc::STDERR_FILENO;
 use libc::STDIN_FILENO;
 
-// All of an input: lines to subframes, or subframes to lines.
-fn pass_all(fd: i32, name: &[u8], lines: bool) {
+// All of an input: lines to subframes, or subframes to lines. The status.
+fn pass_all(fd: i32, name: &[u8], lines: bool, once: bool) -> u8 {
     if lines {
-        writing::write_subframes(fd, name);
-        return;
+        return status_of(writing::write_subframes(fd, name, once));
     }
-    reading::show_subframes(fd, name);
+    status_of(reading::show_subframes(fd, name))
 }
 
 // The file of a name; - is standard input.
-fn pass_file(name: &[u8], lines: bool) {
+fn pass_file(name: &[u8], lines: bool) -> u8 {
     if console::words::same(name, b"-") {
-        pass_all(STDIN_FILENO, name, lines);
-        return;
+        return pass_all(STDIN_FILENO, b"standard input", lines, true);
     }
     let fd = os::open_read(name);
     if fd < 0 {
         console::say::say_errno(b"d1", name);
-        return;
+        return 1;
     }
-    pass_all(fd, name, lines);
+    let status = pass_all(fd, name, lines, !console::turns::rewinds(fd));
     libc::close(fd);
+    status
 }
 
-// The file of argument i.
-fn pass_arg(i: usize, lines: bool) {
+// How the program is called.
+fn usage() -> u8 {
+    io::write_all(STDERR_FILENO, b"usage: d1 [-w] FILE\n");
+    2
+}
+
+// The file of the program's own argument i.
+fn pass_arg(a: Args, i: usize, lines: bool) -> u8 {
     let mut path = io::buffer();
-    let n = os::arg(i, &mut path);
+    let n = own(a, i, &mut path);
     if os::errno() != 0 {
         console::say::say_errno(b"d1", b"argument");
-        return;
+        return 1;
     }
-    pass_file(&path[..n], lines);
+    if console::words::is_option(&path[..n]) {
+        return usage();
+    }
+    pass_file(&path[..n], lines)
 }
 
-// Whether the first argument is -w.
-fn is_lines() -> bool {
-    let mut room = io::buffer();
-    let n = os::arg(1, &mut room);
-    console::words::same(&room[..n], b"-w")
+// The program by its arguments; the status.
+fn run(a: Args) -> u8 {
+    let count = own_count(a);
+    if count == 1 {
+        return pass_arg(a, 0, false);
+    }
+    if (count == 2) & own_is(a, 0, b"-w") {
+        return pass_arg(a, 1, true);
+    }
+    usage()
 }
 
 fn main() {
-    let count = os::arg_count();
-    if count == 2 {
-        pass_arg(1, false);
-        return;
-    }
-    if (count == 3) & is_lines() {
-        pass_arg(2, true);
-        return;
-    }
-    io::write_all(STDERR_FILENO, b"usage: d1 [-w] FILE\n");
+    let a = console::args::begin();
+    let status = run(a);
+    console::args::end(a, status);
 }

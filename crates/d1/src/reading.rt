@@ -7,7 +7,10 @@ use console::put::put_byte;
 use console::put::put_bytes;
 use console::put::put_field;
 use console::put::put_number;
-use libc::STDOUT_FILENO;
+use console::turns::ENDED;
+use console::turns::NOTHING;
+use console::turns::WRITTEN;
+use console::turns::WRONG;
 use verdict::number_of;
 
 // Information bits: FraID, SOW and the bytes.
@@ -21,58 +24,65 @@ fn put_data(room: &mut [u8], d: &[u8]) -> usize
     put_hex(room, e, d)
 }
 
+// A line goes to standard output.
+fn write_line(line: &[u8]) -> u8 {
+    if console::out::write(b"d1", line) {
+        return WRITTEN;
+    }
+    WRONG
+}
+
 // The line of a subframe.
-fn write_data(d: &[u8]) {
+fn write_data(d: &[u8]) -> u8 {
     let mut room = [0u8; 120];
     let a = put_data(&mut room, d);
     let n = put_byte(&mut room, a, 10);
-    io::write_all(STDOUT_FILENO, &room[..n]);
+    write_line(&room[..n])
 }
 
 // The line of a refusal.
-fn write_refused(refusal: u8) {
+fn write_refused(refusal: u8) -> u8 {
     let mut room = [0u8; 40];
     let a = put_bytes(&mut room, 0, b"refused ");
     let b = put_number(&mut room, a, refusal as u64);
     let n = put_byte(&mut room, b, 10);
-    io::write_all(STDOUT_FILENO, &room[..n]);
+    write_line(&room[..n])
 }
 
 // The line of a subframe's bytes.
-fn show_subframe(s: &[u8]) {
+fn show_subframe(s: &[u8]) -> u8 {
     let mut d = [0u8; 28];
     let refusal = number_of(d1_subframes::read_subframe(&mut d, s));
-    if refusal == 0 {
-        write_data(&d);
-    } else {
-        write_refused(refusal);
+    if refusal != 0 {
+        return write_refused(refusal);
     }
+    write_data(&d)
 }
 
-// The next subframe of a file: true to go on, false at the end or where the file cannot be read.
-fn turn(fd: i32, name: &[u8], done: u64) -> bool {
+// The next subframe of a file.
+fn turn(fd: i32, name: &[u8], done: u64) -> u8 {
     let mut room = [0u8; 38];
     let p = console::input::fill(fd, &mut room);
     if p.failed {
         console::say::say_errno_where(b"d1", name, b"offset", done);
-        return false;
+        return WRONG;
     }
     let n = p.count;
     if n == 0 {
-        return false;
+        return ENDED;
     }
-    show_subframe(&room[..n]);
-    true
+    show_subframe(&room[..n])
 }
 
-// All subframes of a file.
-pub(crate) fn show_subframes(fd: i32, name: &[u8]) {
-    let mut on = true;
+// All subframes of a file, and how the last turn ended.
+pub(crate) fn show_subframes(fd: i32, name: &[u8]) -> u8 {
+    let mut state = NOTHING;
     let mut done: u64 = 0;
     let mut left: u64 = 100000000000000000;
-    while left > 0 && on {
-        on = turn(fd, name, done);
+    while left > 0 && state < ENDED {
+        state = turn(fd, name, done);
         done = done % 10000000000000000000 + 38;
         left -= 1;
     }
+    state
 }

@@ -1,39 +1,39 @@
 // The clock records of a part.
+use crate::cursor::CLOCK;
+use crate::cursor::CLOCKS;
+use crate::cursor::Cursor;
+use crate::cursor::SLOT_CLOCK;
+use crate::cursor::at_least;
+use crate::cursor::failed;
+use crate::cursor::key;
+use crate::cursor::passed;
 use crate::fields::ClockWord;
 use crate::fields::bare_clock;
 use crate::fields::is_record;
 use crate::fields::slot_clock;
-use crate::place::CLOCK;
-use crate::place::CLOCKS;
-use crate::place::Place;
-use crate::place::SLOT_CLOCK;
-use crate::place::at_least;
-use crate::place::failed;
-use crate::place::key;
-use crate::place::passed;
 use console::words::next_word;
 use records::clock::Clock;
 use records::clock::blank_clock;
 
-// A clock record, the place after it, and whether there was one.
+// A clock record, the cursor after it, and whether there was one.
 struct ClockGot {
-    place: Place,
+    cursor: Cursor,
     more: bool,
     clock: Clock,
 }
 
-// Clock records, how many, and the place after them.
+// Clock records, how many, and the cursor after them.
 pub(crate) struct ClockList {
-    pub place: Place,
+    pub cursor: Cursor,
     pub count: u8,
     pub clocks: [Clock; 23],
 }
 
 // No clock record.
-fn no_clock(place: Place) -> ClockGot {
+fn no_clock(cursor: Cursor) -> ClockGot {
     let clock = blank_clock();
     ClockGot {
-        place,
+        cursor,
         more: false,
         clock,
     }
@@ -48,7 +48,7 @@ fn clock_of(w: &[u8], slotted: bool) -> ClockWord {
 }
 
 // The next clock record.
-fn clock_word(s: &[u8], p: Place, slotted: bool) -> ClockGot {
+fn clock_word(s: &[u8], p: Cursor, slotted: bool) -> ClockGot {
     if p.fault != 0 {
         return no_clock(p);
     }
@@ -63,10 +63,10 @@ fn clock_word(s: &[u8], p: Place, slotted: bool) -> ClockGot {
         let fault = if slotted { SLOT_CLOCK } else { CLOCK };
         return no_clock(failed(p, fault));
     }
-    let place = passed(p, b);
+    let cursor = passed(p, b);
     let clock = c.clock;
     ClockGot {
-        place,
+        cursor,
         more: true,
         clock,
     }
@@ -81,18 +81,18 @@ fn with_clock(ks: [Clock; 23], i: usize, k: Clock) -> [Clock; 23] {
     out
 }
 
-// The clock records from a place on, at most so many.
-fn read_clocks(s: &[u8], from: Place, slotted: bool, most: u8) -> ClockList {
+// The clock records from a cursor on, at most so many.
+fn read_clocks(s: &[u8], from: Cursor, slotted: bool, most: u8) -> ClockList {
     let mut ks = [blank_clock(); 23];
-    let mut place = from;
+    let mut cursor = from;
     let mut i: u8 = 0;
     while i < most {
-        let g = clock_word(s, place, slotted);
-        let next = g.place;
-        place = next;
+        let g = clock_word(s, cursor, slotted);
+        let next = g.cursor;
+        cursor = next;
         if !g.more {
             return ClockList {
-                place: next,
+                cursor: next,
                 count: i,
                 clocks: ks,
             };
@@ -103,21 +103,21 @@ fn read_clocks(s: &[u8], from: Place, slotted: bool, most: u8) -> ClockList {
         i += 1;
     }
     ClockList {
-        place,
+        cursor,
         count: i,
         clocks: ks,
     }
 }
 
 // The clock records of a part: its key, then so many at least and at most.
-pub(crate) fn clock_list(s: &[u8], p: Place, slotted: bool, least: u8, most: u8) -> ClockList {
+pub(crate) fn clock_list(s: &[u8], p: Cursor, slotted: bool, least: u8, most: u8) -> ClockList {
     let c = read_clocks(s, key(s, p, CLOCKS), slotted, most);
     let fault = if slotted { SLOT_CLOCK } else { CLOCK };
-    let after = c.place;
-    let place = at_least(after, c.count, least, fault);
+    let after = c.cursor;
+    let cursor = at_least(after, c.count, least, fault);
     let clocks = c.clocks;
     ClockList {
-        place,
+        cursor,
         count: c.count,
         clocks,
     }

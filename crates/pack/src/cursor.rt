@@ -6,20 +6,20 @@ use console::words::Word;
 use console::words::next_word;
 use console::words::number_of;
 
-// The place after the last word read, the number of the next word, and what was expected where that is not it (0: no fault).
-pub(crate) struct Place {
+// The position after the last word read, the number of the next word, and what was expected where that is not it (0: no fault).
+pub(crate) struct Cursor {
     pub at: usize,
     pub word: u32,
     pub fault: u8,
 }
 
-// A place and the number read before it.
+// A cursor and the number read before it.
 pub(crate) struct Got {
-    pub place: Place,
+    pub cursor: Cursor,
     pub value: u32,
 }
 
-// The keys, by their place in the text of put_key.
+// The keys, by their number in the text of put_key.
 pub(crate) const TYPE: u8 = 1;
 
 pub(crate) const EPOCH: u8 = 2;
@@ -60,27 +60,27 @@ pub(crate) const SLOT: u8 = 25;
 pub(crate) const LINE_END: u8 = 26;
 
 // The start of a line.
-pub(crate) fn start() -> Place {
-    Place {
+pub(crate) fn start() -> Cursor {
+    Cursor {
         at: 0,
         word: 1,
         fault: 0,
     }
 }
 
-// The place with a fault.
-pub(crate) fn failed(p: Place, fault: u8) -> Place {
-    Place {
+// The cursor with a fault.
+pub(crate) fn failed(p: Cursor, fault: u8) -> Cursor {
+    Cursor {
         at: p.at,
         word: p.word,
         fault,
     }
 }
 
-// The place after a word that ends at another.
-pub(crate) fn passed(p: Place, to: usize) -> Place {
+// The cursor after a word that ends at a position.
+pub(crate) fn passed(p: Cursor, to: usize) -> Cursor {
     let word = if p.word < 1000000 { p.word + 1 } else { p.word };
-    Place {
+    Cursor {
         at: to,
         word,
         fault: 0,
@@ -145,7 +145,7 @@ fn is_key(w: &[u8], k: u8) -> bool {
 }
 
 // Whether the next word is a key.
-pub(crate) fn next_is(s: &[u8], p: Place, k: u8) -> bool {
+pub(crate) fn next_is(s: &[u8], p: Cursor, k: u8) -> bool {
     let w = next_word(s, p.at);
     let a = w.from;
     let b = w.to;
@@ -153,7 +153,7 @@ pub(crate) fn next_is(s: &[u8], p: Place, k: u8) -> bool {
 }
 
 // A key is passed.
-pub(crate) fn key(s: &[u8], p: Place, k: u8) -> Place {
+pub(crate) fn key(s: &[u8], p: Cursor, k: u8) -> Cursor {
     if p.fault != 0 {
         return p;
     }
@@ -165,29 +165,32 @@ pub(crate) fn key(s: &[u8], p: Place, k: u8) -> Place {
 }
 
 // A number is read.
-fn number_word(s: &[u8], p: Place) -> Got {
+fn number_word(s: &[u8], p: Cursor) -> Got {
     if p.fault != 0 {
-        return Got { place: p, value: 0 };
+        return Got {
+            cursor: p,
+            value: 0,
+        };
     }
     let w = next_word(s, p.at);
     let a = w.from;
     let b = w.to;
     let n = number_of(&s[a..b]);
     let Number::Value(value) = n else {
-        let place = failed(p, NUMBER);
-        return Got { place, value: 0 };
+        let cursor = failed(p, NUMBER);
+        return Got { cursor, value: 0 };
     };
-    let place = passed(p, b);
-    Got { place, value }
+    let cursor = passed(p, b);
+    Got { cursor, value }
 }
 
 // A key and its number are read.
-pub(crate) fn field(s: &[u8], p: Place, k: u8) -> Got {
+pub(crate) fn field(s: &[u8], p: Cursor, k: u8) -> Got {
     number_word(s, key(s, p, k))
 }
 
-// The place, with a fault where there are fewer records than must be.
-pub(crate) fn at_least(p: Place, count: u8, least: u8, fault: u8) -> Place {
+// The cursor, with a fault where there are fewer records than must be.
+pub(crate) fn at_least(p: Cursor, count: u8, least: u8, fault: u8) -> Cursor {
     if p.fault != 0 {
         return p;
     }
@@ -198,7 +201,7 @@ pub(crate) fn at_least(p: Place, count: u8, least: u8, fault: u8) -> Place {
 }
 
 // The line must end.
-pub(crate) fn end(s: &[u8], p: Place) -> Place {
+pub(crate) fn end(s: &[u8], p: Cursor) -> Cursor {
     if p.fault != 0 {
         return p;
     }

@@ -1,8 +1,8 @@
 // Clock and orbit records: numbers with strokes between them.
 ghost use Prim.Native.Nat.{_≤_};
 ghost use lib.ListN.{length};
-use crate::place::byte_of;
-use crate::place::short_of;
+use crate::cursor::byte_of;
+use crate::cursor::short_of;
 use console::words::Number;
 use console::words::Raw;
 use console::words::number_of;
@@ -33,7 +33,7 @@ struct Part {
     raw: i16,
 }
 
-// The first part's place.
+// Before the first part.
 fn first() -> Part {
     Part {
         at: 0,
@@ -53,7 +53,7 @@ fn wrong() -> Part {
     }
 }
 
-// The place of the next stroke from a place on, or the word's end.
+// The position of the next stroke from a position on, or the word's end.
 fn stroke(w: &[u8], at: usize) -> usize
     requires { ⌜ at ≤ length (now w) ⌝ }
     ensures { λ r. ⌜ (at ≤ r) × (r ≤ length (now (w .entry))) ⌝ }
@@ -112,7 +112,7 @@ fn raw_part(w: &[u8], p: Part) -> Part {
     }
 }
 
-// The place after a stroke; far past the end where the word has no stroke there.
+// The position after a stroke; far past the end where the word has no stroke there.
 fn after(w: &[u8], to: usize) -> usize {
     if to < w.len() { to + 1 } else { usize::MAX }
 }

@@ -1,17 +1,17 @@
 // The line of a message: its contents, or where and what was expected.
+use crate::cursor::Cursor;
+use crate::cursor::EPOCH;
+use crate::cursor::SSR;
+use crate::cursor::TYPE;
+use crate::cursor::byte_of;
+use crate::cursor::end;
+use crate::cursor::field;
+use crate::cursor::start;
 use crate::parts::clock_part;
 use crate::parts::mask_part;
 use crate::parts::maybe_clocks;
 use crate::parts::maybe_orbits;
 use crate::parts::orbit_part;
-use crate::place::EPOCH;
-use crate::place::Place;
-use crate::place::SSR;
-use crate::place::TYPE;
-use crate::place::byte_of;
-use crate::place::end;
-use crate::place::field;
-use crate::place::start;
 use contents::parts::Contents;
 use contents::parts::no_clocks;
 use contents::parts::no_mask;
@@ -19,14 +19,14 @@ use contents::parts::no_orbits;
 
 // A line that was read.
 pub(crate) struct Line {
-    pub place: Place,
+    pub cursor: Cursor,
     pub contents: Contents,
 }
 
 // The parts of type 1.
-fn line1(s: &[u8], p: Place) -> Line {
+fn line1(s: &[u8], p: Cursor) -> Line {
     let m = mask_part(s, p);
-    let place = m.place;
+    let cursor = m.cursor;
     let mask = m.part;
     let clock = no_clocks();
     let orbit = no_orbits();
@@ -36,13 +36,13 @@ fn line1(s: &[u8], p: Place) -> Line {
         clock,
         orbit,
     };
-    Line { place, contents }
+    Line { cursor, contents }
 }
 
 // The parts of type 2.
-fn line2(s: &[u8], p: Place) -> Line {
+fn line2(s: &[u8], p: Cursor) -> Line {
     let o = orbit_part(s, p, EPOCH, SSR, 6, 6);
-    let place = o.place;
+    let cursor = o.cursor;
     let orbit = o.part;
     let mask = no_mask();
     let clock = no_clocks();
@@ -52,13 +52,13 @@ fn line2(s: &[u8], p: Place) -> Line {
         clock,
         orbit,
     };
-    Line { place, contents }
+    Line { cursor, contents }
 }
 
 // The parts of type 4.
-fn line4(s: &[u8], p: Place) -> Line {
+fn line4(s: &[u8], p: Cursor) -> Line {
     let k = clock_part(s, p);
-    let place = k.place;
+    let cursor = k.cursor;
     let clock = k.part;
     let mask = no_mask();
     let orbit = no_orbits();
@@ -68,15 +68,15 @@ fn line4(s: &[u8], p: Place) -> Line {
         clock,
         orbit,
     };
-    Line { place, contents }
+    Line { cursor, contents }
 }
 
 // The parts of types 6 and 7.
-fn line67(s: &[u8], p: Place, kind: u8) -> Line {
+fn line67(s: &[u8], p: Cursor, kind: u8) -> Line {
     let k = maybe_clocks(s, p, kind == 7);
-    let pk = k.place;
+    let pk = k.cursor;
     let o = maybe_orbits(s, pk);
-    let place = o.place;
+    let cursor = o.cursor;
     let clock = k.part;
     let orbit = o.part;
     let mask = no_mask();
@@ -86,11 +86,11 @@ fn line67(s: &[u8], p: Place, kind: u8) -> Line {
         clock,
         orbit,
     };
-    Line { place, contents }
+    Line { cursor, contents }
 }
 
 // A type with no parts, or one that is not written.
-fn bare(place: Place, kind: u8) -> Line {
+fn bare(cursor: Cursor, kind: u8) -> Line {
     let mask = no_mask();
     let clock = no_clocks();
     let orbit = no_orbits();
@@ -100,11 +100,11 @@ fn bare(place: Place, kind: u8) -> Line {
         clock,
         orbit,
     };
-    Line { place, contents }
+    Line { cursor, contents }
 }
 
 // The parts of a type.
-fn parts(s: &[u8], p: Place, kind: u8) -> Line {
+fn parts(s: &[u8], p: Cursor, kind: u8) -> Line {
     match kind {
         1 => line1(s, p),
         2 => line2(s, p),
@@ -118,13 +118,13 @@ fn parts(s: &[u8], p: Place, kind: u8) -> Line {
 // The line of a message.
 pub(crate) fn read_message(s: &[u8]) -> Line {
     let t = field(s, start(), TYPE);
-    let p = t.place;
+    let p = t.cursor;
     if p.fault != 0 {
         return bare(p, 0);
     }
     let l = parts(s, p, byte_of(t.value));
-    let q = l.place;
+    let q = l.cursor;
     let contents = l.contents;
-    let place = end(s, q);
-    Line { place, contents }
+    let cursor = end(s, q);
+    Line { cursor, contents }
 }

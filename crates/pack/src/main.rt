@@ -1,145 +1,174 @@
 // pack FILE: the messages of lines as show writes them, 61 bytes each, on standard output.
 mod clocks;
+mod cursor;
+mod faults;
 mod fields;
 mod lines;
 mod orbits;
 mod parts;
-mod place;
 mod slots;
 
 ghost use Rattle.console.specs.Lines.{Inside};
+use console::args::Args;
+use console::args::own;
 use console::lines::Lines;
 use console::lines::Step;
 use console::lines::next_line;
-use console::put::put_bytes;
-use console::put::put_number;
-use console::say::say_where;
+use console::turns::ENDED;
+use console::turns::NOTHING;
+use console::turns::Pass;
+use console::turns::WRITTEN;
+use console::turns::WRONG;
+use console::turns::counted;
+use console::turns::status_of;
 use contents::parts::Contents;
 use libc::STDERR_FILENO;
 use libc::STDIN_FILENO;
-use libc::STDOUT_FILENO;
-use place::Place;
 use verdict::number_of;
 
-// A line is refused.
-fn say_refused(name: &[u8], number: u64, n: u8) {
-    let mut room = [0u8; 40];
-    let a = put_bytes(&mut room, 0, b"refused ");
-    let b = put_number(&mut room, a, n as u64);
-    say_where(b"pack", name, b"line", number, &room[..b]);
+// A message goes to standard output, in a pass that writes.
+fn write_message(p: Pass, m: &[u8]) -> u8 {
+    if !p.writes {
+        return WRITTEN;
+    }
+    if console::out::write(b"pack", m) {
+        return WRITTEN;
+    }
+    WRONG
 }
 
-// A line is malformed: what was expected at which word.
-fn say_malformed(name: &[u8], number: u64, p: Place) {
-    let mut room = [0u8; 120];
-    let a = put_bytes(&mut room, 0, b"word ");
-    let b = put_number(&mut room, a, p.word as u64);
-    let c = put_bytes(&mut room, b, b": expected ");
-    let d = place::put_expected(&mut room, c, p.fault);
-    say_where(b"pack", name, b"line", number, &room[..d]);
-}
-
-// Contents are written to standard output, or refused.
-fn write_contents(name: &[u8], number: u64, c: Contents) {
+// Contents are written, or refused.
+fn write_contents(name: &[u8], p: Pass, c: Contents) -> u8 {
     let mut room = [0u8; 61];
     let v = writing::write(&mut room, c);
     let n = number_of(v);
-    if n == 0 {
-        io::write_all(STDOUT_FILENO, &room);
-    } else {
-        say_refused(name, number, n);
+    if n != 0 {
+        return faults::say_refused(name, p, n);
     }
+    write_message(p, &room)
 }
 
 // A line that is neither blank nor a comment.
-fn pack_message(name: &[u8], number: u64, s: &[u8]) {
+fn pack_message(name: &[u8], p: Pass, s: &[u8]) -> u8 {
     let l = lines::read_message(s);
-    let p = l.place;
-    if p.fault != 0 {
-        say_malformed(name, number, p);
-        return;
+    let c = l.cursor;
+    if c.fault != 0 {
+        return faults::say_malformed(name, p, s, c);
     }
-    let c = l.contents;
-    write_contents(name, number, c);
+    let contents = l.contents;
+    write_contents(name, p, contents)
+}
+
+// A line without a byte order mark.
+fn pack_text(name: &[u8], p: Pass, s: &[u8]) -> u8 {
+    if console::words::is_remark(s) {
+        return NOTHING;
+    }
+    pack_message(name, p, s)
 }
 
 // A line.
-fn pack_line(name: &[u8], number: u64, s: &[u8]) {
-    let w = console::words::next_word(s, 0);
-    let a = w.from;
-    let b = w.to;
-    if a == b {
-        return;
-    }
-    if console::words::starts(&s[a..b], b'#') {
-        return;
-    }
-    pack_message(name, number, s);
+fn pack_line(name: &[u8], p: Pass, s: &[u8]) -> u8 {
+    let a = console::words::text_start(s, p.number);
+    pack_text(name, p, &s[a..])
 }
 
-// A step of the reading: true to go on.
-fn turn(name: &[u8], room: &[u8], l: Lines) -> bool
+// A step of the reading.
+fn turn(name: &[u8], room: &[u8], l: Lines, p: Pass) -> u8
     requires { ⌜ Inside l (now room) ⌝ }
 {
     let a = l.start;
     let b = l.end;
     let step = l.step;
     match step {
-        Step::End => false,
-        Step::Failed => {
-            console::say::say_errno_where(b"pack", name, b"line", l.number);
-            false
-        }
-        Step::Long => {
-            say_where(b"pack", name, b"line", l.number, b"longer than 65536 bytes");
-            false
-        }
-        Step::Line => {
-            pack_line(name, l.number, &room[a..b]);
-            true
-        }
+        Step::End => ENDED,
+        Step::Failed => faults::say_unread(name, p),
+        Step::Long => faults::say_line(name, p, b"longer than 65536 bytes"),
+        Step::Line => pack_line(name, p, &room[a..b]),
     }
 }
 
-// All lines of an input.
-fn pack_all(fd: i32, name: &[u8], room: &mut [u8]) {
+// All lines of an input, in a pass that writes or that only looks for faults.
+fn pack_all(fd: i32, name: &[u8], room: &mut [u8], writes: bool) -> u8 {
     let mut l = console::lines::begin();
-    let mut on = true;
+    let mut state = NOTHING;
+    let mut written: u64 = 0;
     let mut left = u64::MAX;
-    while left > 0 && on {
+    while left > 0 && state < ENDED {
         let next = next_line(fd, room, l);
         l = next;
-        on = turn(name, room, next);
+        let p = Pass {
+            writes,
+            number: next.number,
+            written,
+        };
+        state = turn(name, room, next, p);
+        written = counted(written, state);
         left -= 1;
     }
+    state
+}
+
+// All lines of a file, twice: nothing is written where one is faulty.
+fn pack_twice(fd: i32, name: &[u8], room: &mut [u8]) -> u8 {
+    if pack_all(fd, name, room, false) == WRONG {
+        return WRONG;
+    }
+    if !console::turns::rewound(b"pack", name, fd) {
+        return WRONG;
+    }
+    pack_all(fd, name, room, true)
+}
+
+// An input: a file is passed over twice, what cannot be rewound once.
+fn pack_input(fd: i32, name: &[u8], once: bool) -> u8 {
+    let mut room = console::lines::line_room();
+    if once {
+        return status_of(pack_all(fd, name, &mut room, true));
+    }
+    status_of(pack_twice(fd, name, &mut room))
 }
 
 // The file of a name; - is standard input.
-fn pack_file(name: &[u8]) {
-    let mut room = io::large_buffer();
+fn pack_file(name: &[u8]) -> u8 {
     if console::words::same(name, b"-") {
-        pack_all(STDIN_FILENO, name, &mut room);
-        return;
+        return pack_input(STDIN_FILENO, b"standard input", true);
     }
     let fd = os::open_read(name);
     if fd < 0 {
         console::say::say_errno(b"pack", name);
-        return;
+        return 1;
     }
-    pack_all(fd, name, &mut room);
+    let status = pack_input(fd, name, !console::turns::rewinds(fd));
     libc::close(fd);
+    status
+}
+
+// How the program is called.
+fn usage() -> u8 {
+    io::write_all(STDERR_FILENO, b"usage: pack FILE\n");
+    2
+}
+
+// The program by its arguments; the status.
+fn run(a: Args) -> u8 {
+    if console::args::own_count(a) != 1 {
+        return usage();
+    }
+    let mut path = io::buffer();
+    let n = own(a, 0, &mut path);
+    if os::errno() != 0 {
+        console::say::say_errno(b"pack", b"argument");
+        return 1;
+    }
+    if console::words::is_option(&path[..n]) {
+        return usage();
+    }
+    pack_file(&path[..n])
 }
 
 fn main() {
-    if os::arg_count() != 2 {
-        io::write_all(STDERR_FILENO, b"usage: pack FILE\n");
-        return;
-    }
-    let mut path = io::buffer();
-    let n = os::arg(1, &mut path);
-    if os::errno() != 0 {
-        console::say::say_errno(b"pack", b"argument");
-        return;
-    }
-    pack_file(&path[..n]);
+    let a = console::args::begin();
+    let status = run(a);
+    console::args::end(a, status);
 }

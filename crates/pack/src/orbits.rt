@@ -1,43 +1,43 @@
 // The orbit records of a part.
+use crate::cursor::Cursor;
+use crate::cursor::ORBIT;
+use crate::cursor::ORBITS;
+use crate::cursor::at_least;
+use crate::cursor::failed;
+use crate::cursor::key;
+use crate::cursor::passed;
 use crate::fields::is_record;
 use crate::fields::orbit;
-use crate::place::ORBIT;
-use crate::place::ORBITS;
-use crate::place::Place;
-use crate::place::at_least;
-use crate::place::failed;
-use crate::place::key;
-use crate::place::passed;
 use console::words::next_word;
 use records::orbit::Orbit;
 use records::orbit::blank_orbit;
 
-// An orbit record, the place after it, and whether there was one.
+// An orbit record, the cursor after it, and whether there was one.
 struct OrbitGot {
-    place: Place,
+    cursor: Cursor,
     more: bool,
     orbit: Orbit,
 }
 
-// Orbit records, how many, and the place after them.
+// Orbit records, how many, and the cursor after them.
 pub(crate) struct OrbitList {
-    pub place: Place,
+    pub cursor: Cursor,
     pub count: u8,
     pub orbits: [Orbit; 6],
 }
 
 // No orbit record.
-fn no_orbit(place: Place) -> OrbitGot {
+fn no_orbit(cursor: Cursor) -> OrbitGot {
     let orbit = blank_orbit();
     OrbitGot {
-        place,
+        cursor,
         more: false,
         orbit,
     }
 }
 
 // The next orbit record.
-fn orbit_word(s: &[u8], p: Place) -> OrbitGot {
+fn orbit_word(s: &[u8], p: Cursor) -> OrbitGot {
     if p.fault != 0 {
         return no_orbit(p);
     }
@@ -51,10 +51,10 @@ fn orbit_word(s: &[u8], p: Place) -> OrbitGot {
     if !o.good {
         return no_orbit(failed(p, ORBIT));
     }
-    let place = passed(p, b);
+    let cursor = passed(p, b);
     let orbit = o.orbit;
     OrbitGot {
-        place,
+        cursor,
         more: true,
         orbit,
     }
@@ -69,18 +69,18 @@ fn with_orbit(os: [Orbit; 6], i: usize, o: Orbit) -> [Orbit; 6] {
     out
 }
 
-// The orbit records from a place on, at most so many.
-fn read_orbits(s: &[u8], from: Place, most: u8) -> OrbitList {
+// The orbit records from a cursor on, at most so many.
+fn read_orbits(s: &[u8], from: Cursor, most: u8) -> OrbitList {
     let mut os = [blank_orbit(); 6];
-    let mut place = from;
+    let mut cursor = from;
     let mut i: u8 = 0;
     while i < most {
-        let g = orbit_word(s, place);
-        let next = g.place;
-        place = next;
+        let g = orbit_word(s, cursor);
+        let next = g.cursor;
+        cursor = next;
         if !g.more {
             return OrbitList {
-                place: next,
+                cursor: next,
                 count: i,
                 orbits: os,
             };
@@ -91,20 +91,20 @@ fn read_orbits(s: &[u8], from: Place, most: u8) -> OrbitList {
         i += 1;
     }
     OrbitList {
-        place,
+        cursor,
         count: i,
         orbits: os,
     }
 }
 
 // The orbit records of a part: its key, then so many at least and at most.
-pub(crate) fn orbit_list(s: &[u8], p: Place, least: u8, most: u8) -> OrbitList {
+pub(crate) fn orbit_list(s: &[u8], p: Cursor, least: u8, most: u8) -> OrbitList {
     let o = read_orbits(s, key(s, p, ORBITS), most);
-    let after = o.place;
-    let place = at_least(after, o.count, least, ORBIT);
+    let after = o.cursor;
+    let cursor = at_least(after, o.count, least, ORBIT);
     let orbits = o.orbits;
     OrbitList {
-        place,
+        cursor,
         count: o.count,
         orbits,
     }

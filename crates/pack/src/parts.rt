@@ -1,22 +1,22 @@
 // The mask, clock and orbit parts of a line.
 use crate::clocks::clock_list;
+use crate::cursor::CLOCK_EPOCH;
+use crate::cursor::CLOCK_SSR;
+use crate::cursor::Cursor;
+use crate::cursor::EPOCH;
+use crate::cursor::FROM;
+use crate::cursor::IODP;
+use crate::cursor::ORBIT_EPOCH;
+use crate::cursor::ORBIT_SSR;
+use crate::cursor::SLOTS;
+use crate::cursor::SSR;
+use crate::cursor::SUB;
+use crate::cursor::byte_of;
+use crate::cursor::field;
+use crate::cursor::key;
+use crate::cursor::next_is;
+use crate::cursor::short_of;
 use crate::orbits::orbit_list;
-use crate::place::CLOCK_EPOCH;
-use crate::place::CLOCK_SSR;
-use crate::place::EPOCH;
-use crate::place::FROM;
-use crate::place::IODP;
-use crate::place::ORBIT_EPOCH;
-use crate::place::ORBIT_SSR;
-use crate::place::Place;
-use crate::place::SLOTS;
-use crate::place::SSR;
-use crate::place::SUB;
-use crate::place::byte_of;
-use crate::place::field;
-use crate::place::key;
-use crate::place::next_is;
-use crate::place::short_of;
 use crate::slots::read_slots;
 use contents::parts::ClockPart;
 use contents::parts::MaskPart;
@@ -24,81 +24,81 @@ use contents::parts::OrbitPart;
 use contents::parts::no_clocks;
 use contents::parts::no_orbits;
 
-// A part, and the place after it.
+// A part, and the cursor after it.
 pub(crate) struct MaskLine {
-    pub place: Place,
+    pub cursor: Cursor,
     pub part: MaskPart,
 }
 
 pub(crate) struct ClockLine {
-    pub place: Place,
+    pub cursor: Cursor,
     pub part: ClockPart,
 }
 
 pub(crate) struct OrbitLine {
-    pub place: Place,
+    pub cursor: Cursor,
     pub part: OrbitPart,
 }
 
 // The mask part of type 1.
-pub(crate) fn mask_part(s: &[u8], p: Place) -> MaskLine {
+pub(crate) fn mask_part(s: &[u8], p: Cursor) -> MaskLine {
     let a = field(s, p, EPOCH);
-    let pa = a.place;
+    let pa = a.cursor;
     let b = field(s, pa, SSR);
-    let pb = b.place;
+    let pb = b.cursor;
     let c = field(s, pb, IODP);
-    let pc = c.place;
+    let pc = c.cursor;
     let d = read_slots(s, key(s, pc, SLOTS));
     let bits = d.bits;
-    let place = d.place;
+    let cursor = d.cursor;
     let part = MaskPart {
         epoch: a.value,
         ssr: byte_of(b.value),
         iodp: byte_of(c.value),
         bits,
     };
-    MaskLine { place, part }
+    MaskLine { cursor, part }
 }
 
 // IODP and the sub-type or the first place.
 struct Which {
-    place: Place,
+    cursor: Cursor,
     iodp: u8,
     start: u16,
 }
 
 // IODP, and the sub-type or the first place after its key.
-fn read_which(s: &[u8], p: Place, k: u8) -> Which {
+fn read_which(s: &[u8], p: Cursor, k: u8) -> Which {
     let a = field(s, p, IODP);
-    let pa = a.place;
+    let pa = a.cursor;
     let b = field(s, pa, k);
-    let place = b.place;
+    let cursor = b.cursor;
     Which {
-        place,
+        cursor,
         iodp: byte_of(a.value),
         start: short_of(b.value),
     }
 }
 
 // Neither IODP nor a first place, as in type 7.
-fn which_none(place: Place) -> Which {
+fn which_none(cursor: Cursor) -> Which {
     Which {
-        place,
+        cursor,
         iodp: 0,
         start: 0,
     }
 }
 
 // The clock part of type 4.
-pub(crate) fn clock_part(s: &[u8], p: Place) -> ClockLine {
+pub(crate) fn clock_part(s: &[u8], p: Cursor) -> ClockLine {
     let a = field(s, p, EPOCH);
-    let pa = a.place;
+    let pa = a.cursor;
     let b = field(s, pa, SSR);
-    let pb = b.place;
+    let pb = b.cursor;
     let w = read_which(s, pb, SUB);
-    let pw = w.place;
+    let pw = w.cursor;
     let c = clock_list(s, pw, false, 23, 23);
-    let place = c.place;
+    let cursor = c.cursor;
     let clocks = c.clocks;
     let part = ClockPart {
         epoch: a.value,
@@ -108,23 +108,23 @@ pub(crate) fn clock_part(s: &[u8], p: Place) -> ClockLine {
         count: c.count,
         clocks,
     };
-    ClockLine { place, part }
+    ClockLine { cursor, part }
 }
 
 // The clock part of types 6 and 7.
-fn first_part(s: &[u8], p: Place, slotted: bool) -> ClockLine {
+fn first_part(s: &[u8], p: Cursor, slotted: bool) -> ClockLine {
     let a = field(s, p, CLOCK_EPOCH);
-    let pa = a.place;
+    let pa = a.cursor;
     let b = field(s, pa, CLOCK_SSR);
-    let pb = b.place;
+    let pb = b.cursor;
     let w = if slotted {
         which_none(pb)
     } else {
         read_which(s, pb, FROM)
     };
-    let pw = w.place;
+    let pw = w.cursor;
     let c = clock_list(s, pw, slotted, 1, 255);
-    let place = c.place;
+    let cursor = c.cursor;
     let clocks = c.clocks;
     let part = ClockPart {
         epoch: a.value,
@@ -134,17 +134,24 @@ fn first_part(s: &[u8], p: Place, slotted: bool) -> ClockLine {
         count: c.count,
         clocks,
     };
-    ClockLine { place, part }
+    ClockLine { cursor, part }
 }
 
 // The orbit part: its keys for epoch and IOD SSR, then so many records at least and at most.
-pub(crate) fn orbit_part(s: &[u8], p: Place, epoch: u8, ssr: u8, least: u8, most: u8) -> OrbitLine {
+pub(crate) fn orbit_part(
+    s: &[u8],
+    p: Cursor,
+    epoch: u8,
+    ssr: u8,
+    least: u8,
+    most: u8,
+) -> OrbitLine {
     let a = field(s, p, epoch);
-    let pa = a.place;
+    let pa = a.cursor;
     let b = field(s, pa, ssr);
-    let pb = b.place;
+    let pb = b.cursor;
     let o = orbit_list(s, pb, least, most);
-    let place = o.place;
+    let cursor = o.cursor;
     let orbits = o.orbits;
     let part = OrbitPart {
         epoch: a.value,
@@ -152,25 +159,25 @@ pub(crate) fn orbit_part(s: &[u8], p: Place, epoch: u8, ssr: u8, least: u8, most
         count: o.count,
         orbits,
     };
-    OrbitLine { place, part }
+    OrbitLine { cursor, part }
 }
 
 // The clock part of types 6 and 7, if there is one.
-pub(crate) fn maybe_clocks(s: &[u8], p: Place, slotted: bool) -> ClockLine {
+pub(crate) fn maybe_clocks(s: &[u8], p: Cursor, slotted: bool) -> ClockLine {
     if next_is(s, p, CLOCK_EPOCH) {
         return first_part(s, p, slotted);
     }
     let part = no_clocks();
-    ClockLine { place: p, part }
+    ClockLine { cursor: p, part }
 }
 
 // The orbit part of types 6 and 7, if there is one.
-pub(crate) fn maybe_orbits(s: &[u8], p: Place) -> OrbitLine {
+pub(crate) fn maybe_orbits(s: &[u8], p: Cursor) -> OrbitLine {
     if p.fault == 0 {
         if next_is(s, p, ORBIT_EPOCH) {
             return orbit_part(s, p, ORBIT_EPOCH, ORBIT_SSR, 1, 255);
         }
     }
     let part = no_orbits();
-    OrbitLine { place: p, part }
+    OrbitLine { cursor: p, part }
 }

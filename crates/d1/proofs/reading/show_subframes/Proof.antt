@@ -10,10 +10,10 @@ use Rattle.d1.proofs.reading.show_subframes.Lts as lts
 use Rattle.d1.proofs.reading.turn.Reads as turn-reads
 
 abbrev Inv-loop : tie.InvT-loop
-Inv-loop fd name on₀ done₀ left₀ on done left = Unit {0}
+Inv-loop fd name state₀ done₀ left₀ state done left = Unit {0}
 
 abbrev μ-loop : tie.MeasureT-loop
-μ-loop fd name on₀ done₀ left₀ on done left = left
+μ-loop fd name state₀ done₀ left₀ state done left = left
 
 loop-holds : tie.Need-loop-holds Inv-loop μ-loop
 loop-holds c = search needs

@@ -12,10 +12,10 @@ use Rattle.pack.proofs.clocks.with_clock.Reads as with-clock-reads
 use Rattle.records.proofs.clock.blank_clock.Reads as blank-clock-reads
 
 abbrev Inv-loop : tie.InvT-loop
-Inv-loop s slotted most ks₀ place₀ i₀ ks place i = i ≤ most
+Inv-loop s slotted most ks₀ cursor₀ i₀ ks cursor i = i ≤ most
 
 abbrev μ-loop : tie.MeasureT-loop
-μ-loop s slotted most ks₀ place₀ i₀ ks place i = most - i
+μ-loop s slotted most ks₀ cursor₀ i₀ ks cursor i = most - i
 
 blank-clock-requires : tie.Need-blank-clock-requires Inv-loop μ-loop
 blank-clock-requires c κs = search needs

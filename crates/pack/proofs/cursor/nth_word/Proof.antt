@@ -3,10 +3,10 @@ use native.Mathlib.Omega.{arith}
 use Prim.Native.Nat.{ℕ, zero, suc, _+_, _*_, _-_, _/_, _%_, _^_, _≤_, _<_}
 use mathlib.Core.Path.{_≡_, sym, ap, _∙_, refl, subst}
 use lib.ListN.{length, getD}
-use Rattle.pack.proofs.place.nth_word.Statement.{statement}
-use Rattle.pack.proofs.place.nth_word.Tie as tie
-use Rattle.pack.proofs.place.nth_word.Reads as reads
-use Rattle.pack.proofs.place.nth_word.Lts as lts
+use Rattle.pack.proofs.cursor.nth_word.Statement.{statement}
+use Rattle.pack.proofs.cursor.nth_word.Tie as tie
+use Rattle.pack.proofs.cursor.nth_word.Reads as reads
+use Rattle.pack.proofs.cursor.nth_word.Lts as lts
 use Rattle.console.proofs.words.next_word.Reads as next-word-reads
 
 abbrev Inv-loop : tie.InvT-loop

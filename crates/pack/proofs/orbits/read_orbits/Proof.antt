@@ -12,10 +12,10 @@ use Rattle.pack.proofs.orbits.with_orbit.Reads as with-orbit-reads
 use Rattle.records.proofs.orbit.blank_orbit.Reads as blank-orbit-reads
 
 abbrev Inv-loop : tie.InvT-loop
-Inv-loop s most os₀ place₀ i₀ os place i = i ≤ most
+Inv-loop s most os₀ cursor₀ i₀ os cursor i = i ≤ most
 
 abbrev μ-loop : tie.MeasureT-loop
-μ-loop s most os₀ place₀ i₀ os place i = most - i
+μ-loop s most os₀ cursor₀ i₀ os cursor i = most - i
 
 blank-orbit-requires : tie.Need-blank-orbit-requires Inv-loop μ-loop
 blank-orbit-requires c κs = search needs

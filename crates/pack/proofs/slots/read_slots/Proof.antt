@@ -8,13 +8,13 @@ use Rattle.pack.proofs.slots.read_slots.Tie as tie
 use Rattle.pack.proofs.slots.read_slots.Reads as reads
 use Rattle.pack.proofs.slots.read_slots.Lts as lts
 use Rattle.pack.proofs.slots.slot_word.Reads as slot-word-reads
-use Rattle.pack.proofs.place.failed.Reads as failed-reads
+use Rattle.pack.proofs.cursor.failed.Reads as failed-reads
 
 abbrev Inv-loop : tie.InvT-loop
-Inv-loop s bits₀ place₀ last₀ i₀ bits place last i = i ≤ 255
+Inv-loop s bits₀ cursor₀ last₀ i₀ bits cursor last i = i ≤ 255
 
 abbrev μ-loop : tie.MeasureT-loop
-μ-loop s bits₀ place₀ last₀ i₀ bits place last i = 255 - i
+μ-loop s bits₀ cursor₀ last₀ i₀ bits cursor last i = 255 - i
 
 loop-holds : tie.Need-loop-holds Inv-loop μ-loop
 loop-holds c = search needs
