@@ -6,7 +6,8 @@ stand=$folder/stand
 mkdir -p "$stand/crates/tool/src" "$stand/crates/ground/src" "$stand/crates/apart/src" "$stand/target/bin" "$stand/tools"
 cp "$root/quieuvodan" "$root/KIT-ID" "$stand/"
 printf '# layers\nground:\napart:\ntool: ground io\n' >"$stand/crates.txt"
-printf '// tool [-x] WHAT: does what it is told.\n// -x: more of it.\n//\n// WHAT is a word.\nmod tool;\n// not this\n' >"$stand/crates/tool/src/main.rt"
+printf '%s\n' '// tool [-x] WHAT: does what it is told.' '// -x: more of it.' '//' '// WHAT is a word.' 'mod tool;' '// not this' \
+    >"$stand/crates/tool/src/main.rt"
 : >"$stand/crates/ground/src/lib.rt"
 : >"$stand/crates/apart/src/lib.rt"
 cat >"$stand/program" <<'END'
