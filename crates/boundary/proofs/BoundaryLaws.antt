@@ -12,7 +12,7 @@ use borrow.Author.Tests.{eq-eqb, ne-eqb}
 use Rattle.bits.specs.Bytes.{storeAt}
 use Rattle.lookback.specs.Walk.{toList, rowsFrom}
 use Rattle.lookback.proofs.WalkLaws.{rows-step, rows-end}
-use Rattle.list.specs.Row.{answerOf}
+use Rattle.list.specs.Row.{rowSays, answerOf}
 use Rattle.list.specs.Rows.{foundCount}
 use Rattle.list.specs.declared.row.Row.{Row}
 use Rattle.list.specs.declared.row.RowAnswer.{RowAnswer}
@@ -34,41 +34,37 @@ use Rattle.boundary.specs.Size.{contentsSize, rowSize, rowsSize}
 use Rattle.boundary.specs.Boundary.{sized, isContents, openAnswer, openRoom, takeAnswer, takeRoom, answerBytes, rowsBytes, rowsAnswer, rowsRoom, rowAnswer, rowRoom, readingAnswer, readingRoom, readAnswer, readRoom, frameAnswer, frameRoom, writeAnswer, writeRoom}
 
 -- ---- rows put one after the other, as a loop's turn has them
-answer-of : (o : Option Row) (rest : List Row) → rowsBytes (toList o ++ rest) ≡ answerBytes (answerOf 0 o) ++ rowsBytes rest
+answer-of : (o : Option Row) (rest : List Row) → rowsBytes (toList o ++ rest) ≡ answerBytes (answerOf 0 o .1) ++ rowsBytes rest
 unfolding rowsBytes
 answer-of (some r) rest = refl
 answer-of none rest = refl
 
-count-of : (o : Option Row) → rowSize * foundCount (answerOf 0 o) ≡ length (answerBytes (answerOf 0 o))
+count-of : (o : Option Row) → rowSize * foundCount (answerOf 0 o) ≡ length (answerBytes (answerOf 0 o .1))
 count-of (some r) = refl
 count-of none = refl
 
-pub found-le : (a : RowAnswer) → foundCount a ≤ 1
-found-le (Found r) = omega arith
-found-le (Refused n) = omega arith
-
-module _ (f : ℕ → Option Row) (i n k : ℕ) (s t : List ℕ) (a : RowAnswer) where
-  pub rows-turn : i < 255 → a ≡ answerOf 0 (f (i + 1)) → k ≡ n + foundCount a → t ≡ storeAt s (rowSize * n) (answerBytes a) →
+module _ (f : ℕ → Option Row) (i n k : ℕ) (s t : List ℕ) (a : ℕ × Option Row) where
+  pub rows-turn : i < 255 → a ≡ answerOf 0 (f (i + 1)) → k ≡ n + foundCount a → t ≡ storeAt s (rowSize * n) (answerBytes (a .1)) →
       storeAt t (rowSize * k) (rowsBytes (rowsFrom f (255 - (i + 1)) (i + 1 + 1))) ≡ storeAt s (rowSize * n) (rowsBytes (rowsFrom f (255 - i) (i + 1)))
   rows-turn h e c b =
       let rest = rowsFrom f (255 - (i + 1)) (i + 1 + 1) in
-      let l : rowSize * n + length (answerBytes a) ≡ rowSize * k = omega (arith, rw (← e) at (count-of (f (i + 1)))) in
-      let p : rowsBytes (rowsFrom f (255 - i) (i + 1)) ≡ answerBytes a ++ rowsBytes rest =
-      ap rowsBytes (rows-step f 255 i (i + 1) h) ∙ answer-of (f (i + 1)) rest ∙ ap (λ (x : RowAnswer). answerBytes x ++ rowsBytes rest) (sym e)
+      let l : rowSize * n + length (answerBytes (a .1)) ≡ rowSize * k = omega (arith, rw (← e) at (count-of (f (i + 1)))) in
+      let p : rowsBytes (rowsFrom f (255 - i) (i + 1)) ≡ answerBytes (a .1) ++ rowsBytes rest =
+      ap rowsBytes (rows-step f 255 i (i + 1) h) ∙ answer-of (f (i + 1)) rest ∙ ap (λ (x : ℕ × Option Row). answerBytes (x .1) ++ rowsBytes rest) (sym e)
       in
-      rw (b, p) (store-two s (rowSize * n) (rowSize * k) (answerBytes a) (rowsBytes rest) l)
+      rw (b, p) (store-two s (rowSize * n) (rowSize * k) (answerBytes (a .1)) (rowsBytes rest) l)
 
   pub rows-over : 255 ≤ i → storeAt s (rowSize * n) (rowsBytes (rowsFrom f (255 - i) (i + 1))) ≡ s
   unfolding rowsBytes storeAt
   rows-over h = rw (rows-end f 255 i (i + 1) h)
 
 -- the answer put as row n
-pub answer-none : (s : List ℕ) (n : ℕ) (a : RowAnswer) (m : ℕ) → a ≡ Refused m → (n ≡ n + foundCount a) × (s ≡ storeAt s (rowSize * n) (answerBytes a))
+pub answer-none : (s : List ℕ) (n : ℕ) (a : RowAnswer) (m : ℕ) → a ≡ Refused m → (n ≡ n + foundCount (rowSays a)) × (s ≡ storeAt s (rowSize * n) (answerBytes (rowSays a .1)))
 unfolding storeAt
 answer-none s n a m e = rw e (omega arith, refl)
 
 pub answer-some : (s : List ℕ) (n : ℕ) (a : RowAnswer) (r : Row) (t : List ℕ) → a ≡ Found r → t ≡ storeAt s (rowSize * n) (rowBytes r) →
-    (n + 1 ≡ n + foundCount a) × (t ≡ storeAt s (rowSize * n) (answerBytes a))
+    (n + 1 ≡ n + foundCount (rowSays a)) × (t ≡ storeAt s (rowSize * n) (answerBytes (rowSays a .1)))
 answer-some s n a r t e b = rw e (refl, b)
 
 -- ---- each function by its cases
@@ -165,12 +161,12 @@ module _ (s is : List ℕ) (slot : ℕ) (room : List ℕ) where
   unfolding rowAnswer rowRoom
   row-size l n = (rw (eq-eqb _ _ l, ne-eqb _ _ n), rw (eq-eqb _ _ l, ne-eqb _ _ n))
 
-  pub row-found : (r : Row) (t : List ℕ) → length s ≡ size → length room ≡ rowSize → rowOfSlotAnswer s is slot ≡ Found r → t ≡ storeAt room 0 (rowBytes r) →
+  pub row-found : (r : Row) (t : List ℕ) → length s ≡ size → length room ≡ rowSize → rowOfSlotAnswer s is slot ≡ rowSays (Found r) → t ≡ storeAt room 0 (rowBytes r) →
       (0 ≡ rowAnswer s is slot room) × (t ≡ rowRoom s is slot room)
   unfolding rowAnswer rowRoom
   row-found r t l m e b = (rw (eq-eqb _ _ l, eq-eqb _ _ m, e), rw (eq-eqb _ _ l, eq-eqb _ _ m, e) (b ∙ row-whole room r m))
 
-  pub row-none : (n : ℕ) → length s ≡ size → length room ≡ rowSize → rowOfSlotAnswer s is slot ≡ Refused n → (n ≡ rowAnswer s is slot room) × (room ≡ rowRoom s is slot room)
+  pub row-none : (n : ℕ) → length s ≡ size → length room ≡ rowSize → rowOfSlotAnswer s is slot ≡ rowSays (Refused n) → (n ≡ rowAnswer s is slot room) × (room ≡ rowRoom s is slot room)
   unfolding rowAnswer rowRoom
   row-none n l m e = (rw (eq-eqb _ _ l, eq-eqb _ _ m, e), rw (eq-eqb _ _ l, eq-eqb _ _ m, e))
 

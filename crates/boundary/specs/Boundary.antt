@@ -2,6 +2,7 @@
 use Prim.Native.Nat.{ℕ, _+_, _/_}
 use mathlib.Core.Bool.{Bool, _&&_}
 use mathlib.Core.List.{List, [], _∷_, _++_}
+use mathlib.Core.Option.{Option, none, some}
 use lib.Dec.{eqb}
 use lib.ListN.{length, replicate}
 use Rattle.bits.specs.Pick.{pick}
@@ -14,11 +15,8 @@ use Rattle.held_mask.specs.Size.{size}
 use Rattle.ledger.specs.Open.{openRefusal, openBytes}
 use Rattle.in_force.specs.Bytes.{fresh, takeSays, takeBytes, frameAt, framesTo, framesOf, runBytes}
 use Rattle.list.specs.Issues.{issuesRefusal}
-use Rattle.list.specs.Row.{rowNumber}
 use Rattle.list.specs.Rows.{listIn, rowOfSlotAnswer}
 use Rattle.list.specs.declared.row.Row.{Row}
-use Rattle.list.specs.declared.row.RowAnswer.{RowAnswer}
-use Rattle.list.specs.declared.row.RowAnswer.the-variants.{Found, Refused}
 use Rattle.writing.specs.Write.{writeRefusal, written}
 use Rattle.from_flat.specs.Read.{contentsOf}
 use Rattle.flat_forms.specs.Write.{contentsBytes, rowBytes}
@@ -81,10 +79,10 @@ unfoldable pub rowsBytes : List Row → List ℕ
 rowsBytes [] = []
 rowsBytes (r ∷ rs) = rowBytes r ++ rowsBytes rs
 
--- the bytes of an answer's row, none of a refusal
-abbrev pub answerBytes : RowAnswer → List ℕ
-answerBytes (Found r) = rowBytes r
-answerBytes (Refused n) = []
+-- the bytes of an answer's row, none where it has none
+abbrev pub answerBytes : Option Row → List ℕ
+answerBytes (some r) = rowBytes r
+answerBytes none = []
 
 -- the lengths that the rows ask for: a ledger, and room for 174 rows
 abbrev pub isRows : List ℕ → List ℕ → Bool
@@ -104,16 +102,16 @@ isRow s room = isLedger s && eqb (length room) rowSize
 
 -- qvd_row: 39, 1, 11, 17, 18
 unfoldable pub rowAnswer : List ℕ → List ℕ → ℕ → List ℕ → ℕ
-rowAnswer s is slot room = sized (isRow s room) (rowNumber (rowOfSlotAnswer s is slot))
+rowAnswer s is slot room = sized (isRow s room) (rowOfSlotAnswer s is slot .0)
 
 -- the row's bytes, or the room as it was
-abbrev pub rowOr : RowAnswer → List ℕ → List ℕ
-rowOr (Found r) room = rowBytes r
-rowOr (Refused n) room = room
+abbrev pub rowOr : Option Row → List ℕ → List ℕ
+rowOr (some r) room = rowBytes r
+rowOr none room = room
 
 -- the row of the slot
 unfoldable pub rowRoom : List ℕ → List ℕ → ℕ → List ℕ → List ℕ
-rowRoom s is slot room = pick (isRow s room) (rowOr (rowOfSlotAnswer s is slot) room) room
+rowRoom s is slot room = pick (isRow s room) (rowOr (rowOfSlotAnswer s is slot .1) room) room
 
 -- 39 where the room is not that of contents, else what the answer says
 abbrev pub readingAnswer : (List ℕ → ℕ) → Answer → List ℕ → ℕ

@@ -6,6 +6,7 @@ ghost use Rattle.bits.specs.Bytes.{storeAt};
 ghost use Rattle.verdict.specs.Verdict.{says, numberIn};
 ghost use Rattle.message.specs.Read.{readingSays};
 ghost use Rattle.in_force.specs.Bytes.{takeSays, takeBytes, frameAt, runBytes, framesOf};
+ghost use Rattle.list.specs.Row.{rowSays};
 ghost use Rattle.list.specs.Rows.{foundCount, listIn};
 ghost use Rattle.boundary.specs.Size.{contentsSize, rowSize};
 ghost use Rattle.boundary.specs.Detail.{detailIn};
@@ -192,8 +193,8 @@ pub extern "C" fn qvd_replay_detail(
 // The answer's row, if it is one, is put as row n, from 0; says how many rows there are then.
 fn put_answer(rows: &mut [u8], n: usize, a: RowAnswer) -> usize
     requires { ⌜ n < 255 ⌝ }
-    ensures count { λ r. ⌜ r ≡ n + foundCount a ⌝ }
-    ensures bytes { λ r. ⌜ now (rows .exit) ≡ storeAt (now (rows .entry)) (rowSize * n) (answerBytes a) ⌝ }
+    ensures count { λ r. ⌜ r ≡ n + foundCount (rowSays a) ⌝ }
+    ensures bytes { λ r. ⌜ now (rows .exit) ≡ storeAt (now (rows .entry)) (rowSize * n) (answerBytes (rowSays a .1)) ⌝ }
 {
     let RowAnswer::Found(r) = a else {
         return n;
