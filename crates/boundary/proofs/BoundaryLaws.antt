@@ -3,7 +3,7 @@ use mathlib.Core.Path.{_≡_, refl, sym, ap, _∙_}
 use mathlib.Core.Logic.{_≢_}
 use Prim.Native.Nat.{ℕ, _+_, _*_, _-_, _≤_, _<_}
 use mathlib.Core.Bool.{Bool, true, false}
-use mathlib.Core.List.{List, _++_}
+use mathlib.Core.List.{List, [], _++_}
 use mathlib.Core.Option.{Option, none, some}
 use lib.Dec.{eqb}
 use lib.ListN.{length, replicate}
@@ -12,21 +12,19 @@ use borrow.Author.Tests.{eq-eqb, ne-eqb}
 use Rattle.bits.specs.Bytes.{storeAt}
 use Rattle.lookback.specs.Walk.{toList, rowsFrom}
 use Rattle.lookback.proofs.WalkLaws.{rows-step, rows-end}
-use Rattle.list.specs.Row.{answerOf}
+use Rattle.list.specs.Row.{rowSays, answerOf}
 use Rattle.list.specs.Rows.{foundCount}
 use Rattle.list.specs.declared.row.Row.{Row}
 use Rattle.list.specs.declared.row.RowAnswer.{RowAnswer}
 use Rattle.list.specs.declared.row.RowAnswer.the-variants.{Found, Refused}
 use Rattle.flat_forms.specs.Write.{rowBytes, contentsBytes}
 use Rattle.flat_forms.proofs.StoreLaws.{store-two}
-use Rattle.verdict.specs.Verdict.{numberOf, verdictOf}
-use Rattle.verdict.specs.declared.Verdict.{Verdict}
-use Rattle.message.specs.Read.{readMessage}
-use Rattle.message.specs.declared.Reading.{Reading}
-use Rattle.frame.specs.Frame.{readFrame}
-use Rattle.frame.specs.Frame.{isPrn}
+use Rattle.verdict.specs.Verdict.{numberIn, refusedBy}
+use Rattle.message.specs.Read.{Answer, readMessage}
+use Rattle.frame.specs.Frame.{refusalWith, readWith, readFrame, isPrn}
+use Rattle.frame.proofs.VerdictLaws.{frame-quiet}
 use Rattle.held_mask.specs.Size.{size}
-use Rattle.in_force.specs.Bytes.{fresh, takeVerdict, takeBytes}
+use Rattle.in_force.specs.Bytes.{fresh, takeSays, takeBytes}
 use Rattle.list.specs.Issues.{issuesRefusal}
 use Rattle.list.specs.Rows.{listIn, rowOfSlotAnswer}
 use Rattle.writing.specs.Write.{writeRefusal, written}
@@ -36,41 +34,37 @@ use Rattle.boundary.specs.Size.{contentsSize, rowSize, rowsSize}
 use Rattle.boundary.specs.Boundary.{sized, isContents, openAnswer, openRoom, takeAnswer, takeRoom, answerBytes, rowsBytes, rowsAnswer, rowsRoom, rowAnswer, rowRoom, readingAnswer, readingRoom, readAnswer, readRoom, frameAnswer, frameRoom, writeAnswer, writeRoom}
 
 -- ---- rows put one after the other, as a loop's turn has them
-answer-of : (o : Option Row) (rest : List Row) → rowsBytes (toList o ++ rest) ≡ answerBytes (answerOf 0 o) ++ rowsBytes rest
+answer-of : (o : Option Row) (rest : List Row) → rowsBytes (toList o ++ rest) ≡ answerBytes (answerOf 0 o .1) ++ rowsBytes rest
 unfolding rowsBytes
 answer-of (some r) rest = refl
 answer-of none rest = refl
 
-count-of : (o : Option Row) → rowSize * foundCount (answerOf 0 o) ≡ length (answerBytes (answerOf 0 o))
+count-of : (o : Option Row) → rowSize * foundCount (answerOf 0 o) ≡ length (answerBytes (answerOf 0 o .1))
 count-of (some r) = refl
 count-of none = refl
 
-pub found-le : (a : RowAnswer) → foundCount a ≤ 1
-found-le (Found r) = omega arith
-found-le (Refused n) = omega arith
-
-module _ (f : ℕ → Option Row) (i n k : ℕ) (s t : List ℕ) (a : RowAnswer) where
-  pub rows-turn : i < 255 → a ≡ answerOf 0 (f (i + 1)) → k ≡ n + foundCount a → t ≡ storeAt s (rowSize * n) (answerBytes a) →
+module _ (f : ℕ → Option Row) (i n k : ℕ) (s t : List ℕ) (a : ℕ × Option Row) where
+  pub rows-turn : i < 255 → a ≡ answerOf 0 (f (i + 1)) → k ≡ n + foundCount a → t ≡ storeAt s (rowSize * n) (answerBytes (a .1)) →
       storeAt t (rowSize * k) (rowsBytes (rowsFrom f (255 - (i + 1)) (i + 1 + 1))) ≡ storeAt s (rowSize * n) (rowsBytes (rowsFrom f (255 - i) (i + 1)))
   rows-turn h e c b =
       let rest = rowsFrom f (255 - (i + 1)) (i + 1 + 1) in
-      let l : rowSize * n + length (answerBytes a) ≡ rowSize * k = omega (arith, rw (← e) at (count-of (f (i + 1)))) in
-      let p : rowsBytes (rowsFrom f (255 - i) (i + 1)) ≡ answerBytes a ++ rowsBytes rest =
-      ap rowsBytes (rows-step f 255 i (i + 1) h) ∙ answer-of (f (i + 1)) rest ∙ ap (λ (x : RowAnswer). answerBytes x ++ rowsBytes rest) (sym e)
+      let l : rowSize * n + length (answerBytes (a .1)) ≡ rowSize * k = omega (arith, rw (← e) at (count-of (f (i + 1)))) in
+      let p : rowsBytes (rowsFrom f (255 - i) (i + 1)) ≡ answerBytes (a .1) ++ rowsBytes rest =
+      ap rowsBytes (rows-step f 255 i (i + 1) h) ∙ answer-of (f (i + 1)) rest ∙ ap (λ (x : ℕ × Option Row). answerBytes (x .1) ++ rowsBytes rest) (sym e)
       in
-      rw (b, p) (store-two s (rowSize * n) (rowSize * k) (answerBytes a) (rowsBytes rest) l)
+      rw (b, p) (store-two s (rowSize * n) (rowSize * k) (answerBytes (a .1)) (rowsBytes rest) l)
 
   pub rows-over : 255 ≤ i → storeAt s (rowSize * n) (rowsBytes (rowsFrom f (255 - i) (i + 1))) ≡ s
   unfolding rowsBytes storeAt
   rows-over h = rw (rows-end f 255 i (i + 1) h)
 
 -- the answer put as row n
-pub answer-none : (s : List ℕ) (n : ℕ) (a : RowAnswer) (m : ℕ) → a ≡ Refused m → (n ≡ n + foundCount a) × (s ≡ storeAt s (rowSize * n) (answerBytes a))
+pub answer-none : (s : List ℕ) (n : ℕ) (a : RowAnswer) (m : ℕ) → a ≡ Refused m → (n ≡ n + foundCount (rowSays a)) × (s ≡ storeAt s (rowSize * n) (answerBytes (rowSays a .1)))
 unfolding storeAt
 answer-none s n a m e = rw e (omega arith, refl)
 
 pub answer-some : (s : List ℕ) (n : ℕ) (a : RowAnswer) (r : Row) (t : List ℕ) → a ≡ Found r → t ≡ storeAt s (rowSize * n) (rowBytes r) →
-    (n + 1 ≡ n + foundCount a) × (t ≡ storeAt s (rowSize * n) (answerBytes a))
+    (n + 1 ≡ n + foundCount (rowSays a)) × (t ≡ storeAt s (rowSize * n) (answerBytes (rowSays a .1)))
 answer-some s n a r t e b = rw e (refl, b)
 
 -- ---- each function by its cases
@@ -87,39 +81,39 @@ module _ (s : List ℕ) (prn : ℕ) where
   unfolding openAnswer openRoom
   open-yes t l e b = (rw (eq-eqb _ _ l, e), rw (eq-eqb _ _ l, e) b)
 
--- a frame taken, whatever is said of its verdict
-module _ (say : Verdict → ℕ) (s f : List ℕ) where
+-- a frame taken, whatever is said of it
+module _ (say : List ℕ → ℕ) (s f : List ℕ) where
   pub take-size : length s ≢ size → (39 ≡ takeAnswer say s f) × (s ≡ takeRoom s f)
   unfolding takeRoom
   take-size n = (rw (ne-eqb _ _ n), rw (ne-eqb _ _ n))
 
-  pub take-right : (n : ℕ) (t : List ℕ) → length s ≡ size → n ≡ say (takeVerdict s f) → t ≡ takeBytes s f → (n ≡ takeAnswer say s f) × (t ≡ takeRoom s f)
+  pub take-right : (n : ℕ) (t : List ℕ) → length s ≡ size → n ≡ say (takeSays s f) → t ≡ takeBytes s f → (n ≡ takeAnswer say s f) × (t ≡ takeRoom s f)
   unfolding takeRoom
   take-right n t l a b = (rw (eq-eqb _ _ l) a, rw (eq-eqb _ _ l) b)
 
--- a reading, whatever is said of its verdict
-module _ (say : Verdict → ℕ) (r : Reading) (room : List ℕ) where
+-- a reading, whatever is said of it
+module _ (say : List ℕ → ℕ) (r : Answer) (room : List ℕ) where
   pub reading-size : length room ≢ contentsSize → (39 ≡ readingAnswer say r room) × (room ≡ readingRoom r room)
   unfolding readingRoom
   reading-size n = (rw (ne-eqb _ _ n), rw (ne-eqb _ _ n))
 
-  pub reading-right : (n : ℕ) (t : List ℕ) → length room ≡ contentsSize → n ≡ say (r .verdict) → t ≡ readingRoom r room → (n ≡ readingAnswer say r room) × (t ≡ readingRoom r room)
+  pub reading-right : (n : ℕ) (t : List ℕ) → length room ≡ contentsSize → n ≡ say (r .said) → t ≡ readingRoom r room → (n ≡ readingAnswer say r room) × (t ≡ readingRoom r room)
   reading-right n t l a b = (rw (eq-eqb _ _ l) a, b)
 
 -- its contents put, or not
-module _ (r : Reading) (room : List ℕ) (long : length room ≡ contentsSize) where
-  pub put-no : numberOf (r .verdict) ≢ 0 → room ≡ readingRoom r room
+module _ (r : Answer) (room : List ℕ) (long : length room ≡ contentsSize) where
+  pub put-no : numberIn (r .said) ≢ 0 → room ≡ readingRoom r room
   unfolding readingRoom
   put-no n = rw (eq-eqb _ _ long, ne-eqb _ _ n)
 
-  pub put-yes : (t : List ℕ) → numberOf (r .verdict) ≡ 0 → t ≡ storeAt room 0 (contentsBytes (r .contents)) → t ≡ readingRoom r room
+  pub put-yes : (t : List ℕ) → numberIn (r .said) ≡ 0 → t ≡ storeAt room 0 (contentsBytes (r .contents)) → t ≡ readingRoom r room
   unfolding readingRoom
   put-yes t e b = rw (eq-eqb _ _ long, eq-eqb _ _ e) (b ∙ contents-whole room (r .contents) long)
 
 -- 01, Refusal numbers: lent room stays as it was where the answer is not 0, and holds what is read where it is
-module _ (say : Verdict → ℕ) (same : (v : Verdict) → eqb (say v) 0 ≡ eqb (numberOf v) 0) (r : Reading) (room : List ℕ) where
-  zero-same : (b : Bool) → eqb (sized b (say (r .verdict))) 0 ≡ eqb (sized b (numberOf (r .verdict))) 0
-  zero-same true = same (r .verdict)
+module _ (say : List ℕ → ℕ) (r : Answer) (room : List ℕ) (same : eqb (say (r .said)) 0 ≡ eqb (numberIn (r .said)) 0) where
+  zero-same : (b : Bool) → eqb (sized b (say (r .said))) 0 ≡ eqb (sized b (numberIn (r .said))) 0
+  zero-same true = same
   zero-same false = refl
 
   pub reading-kept : readingAnswer say r room ≢ 0 → readingRoom r room ≡ room
@@ -132,24 +126,28 @@ module _ (say : Verdict → ℕ) (same : (v : Verdict) → eqb (say v) 0 ≡ eqb
 
 module _ (m room : List ℕ) where
   pub read-kept : readAnswer m room ≢ 0 → readRoom m room ≡ room
-  read-kept = reading-kept numberOf (λ v. refl) (readMessage m) room
+  read-kept = reading-kept numberIn (readMessage m) room refl
 
   pub read-given : readAnswer m room ≡ 0 → readRoom m room ≡ contentsBytes (readMessage m .contents)
-  read-given = reading-given numberOf (λ v. refl) (readMessage m) room
+  read-given = reading-given numberIn (readMessage m) room refl
 
-module _ (say : Verdict → ℕ) (same : (v : Verdict) → eqb (say v) 0 ≡ eqb (numberOf v) 0) (f room : List ℕ) where
+module _ (say : List ℕ → ℕ) (same : (said : List ℕ) → (numberIn said ≡ 0 → said ≡ []) → eqb (say said) 0 ≡ eqb (numberIn said) 0) (f room : List ℕ) where
+  frame-same : eqb (say (readFrame f .said)) 0 ≡ eqb (numberIn (readFrame f .said)) 0
+  unfolding readWith
+  frame-same = same (readFrame f .said) (frame-quiet f (refusalWith false f))
+
   pub frame-kept : frameAnswer say f room ≢ 0 → frameRoom f room ≡ room
-  frame-kept = reading-kept say same (readFrame f) room
+  frame-kept = reading-kept say (readFrame f) room frame-same
 
   pub frame-given : frameAnswer say f room ≡ 0 → frameRoom f room ≡ contentsBytes (readFrame f .contents)
-  frame-given = reading-given say same (readFrame f) room
+  frame-given = reading-given say (readFrame f) room frame-same
 
 module _ (k room : List ℕ) where
   pub write-size : length k ≢ contentsSize → (39 ≡ writeAnswer k room) × (room ≡ writeRoom k room)
   unfolding writeAnswer writeRoom
   write-size n = (rw (ne-eqb _ _ n), rw (ne-eqb _ _ n))
 
-  pub write-right : (n : ℕ) (t : List ℕ) → length k ≡ contentsSize → n ≡ numberOf (verdictOf (writeRefusal room (contentsOf k))) → t ≡ written room (contentsOf k) →
+  pub write-right : (n : ℕ) (t : List ℕ) → length k ≡ contentsSize → n ≡ numberIn (refusedBy (writeRefusal room (contentsOf k))) → t ≡ written room (contentsOf k) →
       (n ≡ writeAnswer k room) × (t ≡ writeRoom k room)
   unfolding writeAnswer writeRoom
   write-right n t l a b = (rw (eq-eqb _ _ l) a, rw (eq-eqb _ _ l) b)
@@ -163,12 +161,12 @@ module _ (s is : List ℕ) (slot : ℕ) (room : List ℕ) where
   unfolding rowAnswer rowRoom
   row-size l n = (rw (eq-eqb _ _ l, ne-eqb _ _ n), rw (eq-eqb _ _ l, ne-eqb _ _ n))
 
-  pub row-found : (r : Row) (t : List ℕ) → length s ≡ size → length room ≡ rowSize → rowOfSlotAnswer s is slot ≡ Found r → t ≡ storeAt room 0 (rowBytes r) →
+  pub row-found : (r : Row) (t : List ℕ) → length s ≡ size → length room ≡ rowSize → rowOfSlotAnswer s is slot ≡ rowSays (Found r) → t ≡ storeAt room 0 (rowBytes r) →
       (0 ≡ rowAnswer s is slot room) × (t ≡ rowRoom s is slot room)
   unfolding rowAnswer rowRoom
   row-found r t l m e b = (rw (eq-eqb _ _ l, eq-eqb _ _ m, e), rw (eq-eqb _ _ l, eq-eqb _ _ m, e) (b ∙ row-whole room r m))
 
-  pub row-none : (n : ℕ) → length s ≡ size → length room ≡ rowSize → rowOfSlotAnswer s is slot ≡ Refused n → (n ≡ rowAnswer s is slot room) × (room ≡ rowRoom s is slot room)
+  pub row-none : (n : ℕ) → length s ≡ size → length room ≡ rowSize → rowOfSlotAnswer s is slot ≡ rowSays (Refused n) → (n ≡ rowAnswer s is slot room) × (room ≡ rowRoom s is slot room)
   unfolding rowAnswer rowRoom
   row-none n l m e = (rw (eq-eqb _ _ l, eq-eqb _ _ m, e), rw (eq-eqb _ _ l, eq-eqb _ _ m, e))
 

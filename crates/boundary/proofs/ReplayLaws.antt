@@ -1,4 +1,4 @@
--- Laws of a replay at the boundary, whatever is said of each verdict: its refusals, its loop, and what it leaves.
+-- Laws of a replay at the boundary, whatever is said of each frame: its refusals, its loop, and what it leaves.
 use mathlib.Core.Path.{_≡_, refl, sym, ap, _∙_}
 use mathlib.Core.Logic.{_≢_}
 use Prim.Native.Nat.{ℕ, _+_, _/_, _≤_, _<_}
@@ -10,10 +10,9 @@ use native.Mathlib.Omega.{arith}
 use borrow.Author.Tests.{eqb-true, eq-eqb, ne-eqb}
 use Rattle.bits.specs.Table.{table}
 use Rattle.bits.proofs.TableLaws.{fill-start, fill-step, fill-done}
-use Rattle.verdict.specs.declared.Verdict.{Verdict}
 use Rattle.frame.specs.Frame.{isPrn}
 use Rattle.held_mask.specs.Size.{size}
-use Rattle.in_force.specs.Bytes.{fresh, takeVerdict, takeBytes, frameAt, framesTo, framesOf, runBytes, Holds}
+use Rattle.in_force.specs.Bytes.{fresh, takeSays, takeBytes, frameAt, framesTo, framesOf, runBytes, Holds}
 use Rattle.in_force.proofs.LogLaws.{run-start, run-step}
 use Rattle.in_force.proofs.ReplayLaws.{replayed-all}
 use Rattle.ledger.specs.Open.{openRefusal}
@@ -43,13 +42,13 @@ module _ (n prn m k : ℕ) where
   unfolding replayRefusal
   refusal-none l h e = rw (eq-eqb _ _ l, eq-eqb _ _ h, e)
 
-  -- what is not refused has room for each verdict
+  -- what is not refused has room for each answer
   pub refusal-fits : replayRefusal n prn m k ≡ 0 → k ≡ (m + 124) / 125
   unfolding replayRefusal
   refusal-fits e = eqb-true _ _ (sized-fits (eqb n size) (eqb k ((m + 124) / 125)) (openRefusal prn) e)
 
 -- ---- the loop: the first i frames are taken, and what is said of each is kept
-pub record Taking (say : Verdict → ℕ) (s log v t u : List ℕ) (i : ℕ) : Type 0 where
+pub record Taking (say : List ℕ → ℕ) (s log v t u : List ℕ) (i : ℕ) : Type 0 where
   pub within : i ≤ length u
   pub long : length t ≡ length s
   pub many : length u ≡ length v
@@ -57,11 +56,11 @@ pub record Taking (say : Verdict → ℕ) (s log v t u : List ℕ) (i : ℕ) : T
   pub ledger : t ≡ runBytes s (framesTo log i)
   pub said : u ≡ table (verdictAt say s log) i ++ drop i v
 
-module _ (say : Verdict → ℕ) (s log v : List ℕ) where
+module _ (say : List ℕ → ℕ) (s log v : List ℕ) where
   pub taking-start : length v ≡ (length log + 124) / 125 → Taking say s log v s v 0
   taking-start l = record { within = omega arith; long = refl; many = refl; room = l; ledger = sym (run-start s log); said = fill-start _ _ }
 
-  pub taking-turn : (t u t′ : List ℕ) (i n : ℕ) → Taking say s log v t u i → i < length u → length t′ ≡ length t → t′ ≡ takeBytes t (frameAt log i) → n ≡ say (takeVerdict t (frameAt log i)) →
+  pub taking-turn : (t u t′ : List ℕ) (i n : ℕ) → Taking say s log v t u i → i < length u → length t′ ≡ length t → t′ ≡ takeBytes t (frameAt log i) → n ≡ say (takeSays t (frameAt log i)) →
       Taking say s log v t′ (set u i n) (i + 1)
   taking-turn t u t′ i n h l k b a =
       record {
@@ -70,7 +69,7 @@ module _ (say : Verdict → ℕ) (s log v : List ℕ) where
         many = simp length-set (h .many);
         room = h .room;
         ledger = b ∙ ap (λ (x : List ℕ). takeBytes x (frameAt log i)) (h .ledger) ∙ sym (run-step s log i);
-        said = fill-step (verdictAt say s log) i v u n 0 (omega arith) (h .said) (a ∙ ap (λ (x : List ℕ). say (takeVerdict x (frameAt log i))) (h .ledger));
+        said = fill-step (verdictAt say s log) i v u n 0 (omega arith) (h .said) (a ∙ ap (λ (x : List ℕ). say (takeSays x (frameAt log i))) (h .ledger));
       }
 
   pub taking-end : (t u : List ℕ) (i : ℕ) → Taking say s log v t u i → length u ≤ i → (t ≡ runBytes s (framesOf log)) × (u ≡ verdictsOf say s log)
@@ -79,8 +78,8 @@ module _ (say : Verdict → ℕ) (s log v : List ℕ) where
       let all : i ≡ (length log + 124) / 125 = omega arith in
       (rw all at (h .ledger), fill-done (verdictAt say s log) i ((length log + 124) / 125) v u all (h .room) (h .said))
 
--- ---- three parts: the answer, the ledger, what is said of the verdicts
-module _ (say : Verdict → ℕ) (s : List ℕ) (prn : ℕ) (log v : List ℕ) where
+-- ---- three parts: the answer, the ledger, what is said of the frames
+module _ (say : List ℕ → ℕ) (s : List ℕ) (prn : ℕ) (log v : List ℕ) where
   abbrev pub Same : ℕ → List ℕ → List ℕ → Type 0
   Same n t u = (n ≡ replayAnswer s prn log v) × ((t ≡ replayLedger s prn log v) × (u ≡ replayVerdicts say s prn log v))
 

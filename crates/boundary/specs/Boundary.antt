@@ -2,25 +2,21 @@
 use Prim.Native.Nat.{ℕ, _+_, _/_}
 use mathlib.Core.Bool.{Bool, _&&_}
 use mathlib.Core.List.{List, [], _∷_, _++_}
+use mathlib.Core.Option.{Option, none, some}
 use lib.Dec.{eqb}
 use lib.ListN.{length, replicate}
 use Rattle.bits.specs.Pick.{pick}
 use Rattle.bits.specs.Bytes.{storeAt}
 use Rattle.bits.specs.Table.{table}
-use Rattle.verdict.specs.Verdict.{numberOf, verdictOf}
-use Rattle.verdict.specs.declared.Verdict.{Verdict}
-use Rattle.message.specs.Read.{readMessage}
-use Rattle.message.specs.declared.Reading.{Reading}
+use Rattle.verdict.specs.Verdict.{numberIn, refusedBy}
+use Rattle.message.specs.Read.{Answer, readMessage}
 use Rattle.frame.specs.Frame.{readFrame}
 use Rattle.held_mask.specs.Size.{size}
 use Rattle.ledger.specs.Open.{openRefusal, openBytes}
-use Rattle.in_force.specs.Bytes.{fresh, takeVerdict, takeBytes, frameAt, framesTo, framesOf, runBytes}
+use Rattle.in_force.specs.Bytes.{fresh, takeSays, takeBytes, frameAt, framesTo, framesOf, runBytes}
 use Rattle.list.specs.Issues.{issuesRefusal}
-use Rattle.list.specs.Row.{rowNumber}
 use Rattle.list.specs.Rows.{listIn, rowOfSlotAnswer}
 use Rattle.list.specs.declared.row.Row.{Row}
-use Rattle.list.specs.declared.row.RowAnswer.{RowAnswer}
-use Rattle.list.specs.declared.row.RowAnswer.the-variants.{Found, Refused}
 use Rattle.writing.specs.Write.{writeRefusal, written}
 use Rattle.from_flat.specs.Read.{contentsOf}
 use Rattle.flat_forms.specs.Write.{contentsBytes, rowBytes}
@@ -40,26 +36,26 @@ isContents s = eqb (length s) contentsSize
 
 -- qvd_open: 39, 4
 unfoldable pub openAnswer : List ℕ → ℕ → ℕ
-openAnswer s prn = sized (isLedger s) (numberOf (verdictOf (openRefusal prn)))
+openAnswer s prn = sized (isLedger s) (numberIn (refusedBy (openRefusal prn)))
 
 -- a fresh ledger for the PRN
 unfoldable pub openRoom : List ℕ → ℕ → List ℕ
 openRoom s prn = pick (isLedger s) (openBytes s prn) s
 
--- qvd_take, qvd_take_detail: 39, then what is said of the ledger's verdict: its number, or all that it says
-abbrev pub takeAnswer : (Verdict → ℕ) → List ℕ → List ℕ → ℕ
-takeAnswer say s f = sized (isLedger s) (say (takeVerdict s f))
+-- qvd_take, qvd_take_detail: 39, then what the ledger says: its number, or all of it
+abbrev pub takeAnswer : (List ℕ → ℕ) → List ℕ → List ℕ → ℕ
+takeAnswer say s f = sized (isLedger s) (say (takeSays s f))
 
 -- the ledger with the frame taken
 unfoldable pub takeRoom : List ℕ → List ℕ → List ℕ
 takeRoom s f = pick (isLedger s) (takeBytes s f) s
 
--- what is said of the verdict of frame i of a log, from 0, after those before it
-abbrev pub verdictAt : (Verdict → ℕ) → List ℕ → List ℕ → ℕ → ℕ
-verdictAt say s log i = say (takeVerdict (runBytes s (framesTo log i)) (frameAt log i))
+-- what is said of frame i of a log, from 0, after those before it
+abbrev pub verdictAt : (List ℕ → ℕ) → List ℕ → List ℕ → ℕ → ℕ
+verdictAt say s log i = say (takeSays (runBytes s (framesTo log i)) (frameAt log i))
 
--- what is said of the verdicts of a log's frames, in order
-unfoldable pub verdictsOf : (Verdict → ℕ) → List ℕ → List ℕ → List ℕ
+-- what is said of a log's frames, in order
+unfoldable pub verdictsOf : (List ℕ → ℕ) → List ℕ → List ℕ → List ℕ
 verdictsOf say s log = table (verdictAt say s log) ((length log + 124) / 125)
 
 -- 39 where n bytes are no ledger, or a log of m bytes has another number of frames than k; 4
@@ -74,8 +70,8 @@ replayAnswer s prn log v = replayRefusal (length s) prn (length log) (length v)
 unfoldable pub replayLedger : List ℕ → ℕ → List ℕ → List ℕ → List ℕ
 replayLedger s prn log v = pick (eqb (replayAnswer s prn log v) 0) (runBytes (fresh s prn) (framesOf log)) s
 
--- what is said of the verdict of each frame: its number, or all that it says
-unfoldable pub replayVerdicts : (Verdict → ℕ) → List ℕ → ℕ → List ℕ → List ℕ → List ℕ
+-- what is said of each frame: its number, or all of it
+unfoldable pub replayVerdicts : (List ℕ → ℕ) → List ℕ → ℕ → List ℕ → List ℕ → List ℕ
 replayVerdicts say s prn log v = pick (eqb (replayAnswer s prn log v) 0) (verdictsOf say (fresh s prn) log) v
 
 -- the bytes of some rows, one after the other
@@ -83,10 +79,10 @@ unfoldable pub rowsBytes : List Row → List ℕ
 rowsBytes [] = []
 rowsBytes (r ∷ rs) = rowBytes r ++ rowsBytes rs
 
--- the bytes of an answer's row, none of a refusal
-abbrev pub answerBytes : RowAnswer → List ℕ
-answerBytes (Found r) = rowBytes r
-answerBytes (Refused n) = []
+-- the bytes of an answer's row, none where it has none
+abbrev pub answerBytes : Option Row → List ℕ
+answerBytes (some r) = rowBytes r
+answerBytes none = []
 
 -- the lengths that the rows ask for: a ledger, and room for 174 rows
 abbrev pub isRows : List ℕ → List ℕ → Bool
@@ -106,35 +102,35 @@ isRow s room = isLedger s && eqb (length room) rowSize
 
 -- qvd_row: 39, 1, 11, 17, 18
 unfoldable pub rowAnswer : List ℕ → List ℕ → ℕ → List ℕ → ℕ
-rowAnswer s is slot room = sized (isRow s room) (rowNumber (rowOfSlotAnswer s is slot))
+rowAnswer s is slot room = sized (isRow s room) (rowOfSlotAnswer s is slot .0)
 
 -- the row's bytes, or the room as it was
-abbrev pub rowOr : RowAnswer → List ℕ → List ℕ
-rowOr (Found r) room = rowBytes r
-rowOr (Refused n) room = room
+abbrev pub rowOr : Option Row → List ℕ → List ℕ
+rowOr (some r) room = rowBytes r
+rowOr none room = room
 
 -- the row of the slot
 unfoldable pub rowRoom : List ℕ → List ℕ → ℕ → List ℕ → List ℕ
-rowRoom s is slot room = pick (isRow s room) (rowOr (rowOfSlotAnswer s is slot) room) room
+rowRoom s is slot room = pick (isRow s room) (rowOr (rowOfSlotAnswer s is slot .1) room) room
 
--- 39 where the room is not that of contents, else what is said of the reading's verdict
-abbrev pub readingAnswer : (Verdict → ℕ) → Reading → List ℕ → ℕ
-readingAnswer say r room = sized (isContents room) (say (r .verdict))
+-- 39 where the room is not that of contents, else what the answer says
+abbrev pub readingAnswer : (List ℕ → ℕ) → Answer → List ℕ → ℕ
+readingAnswer say r room = sized (isContents room) (say (r .said))
 
 -- 01, Refusal numbers: the contents that are read; on a refusal the room as it was
-unfoldable pub readingRoom : Reading → List ℕ → List ℕ
-readingRoom r room = pick (eqb (readingAnswer numberOf r room) 0) (contentsBytes (r .contents)) room
+unfoldable pub readingRoom : Answer → List ℕ → List ℕ
+readingRoom r room = pick (eqb (readingAnswer numberIn r room) 0) (contentsBytes (r .contents)) room
 
--- qvd_read: 39, then the number of the reading
+-- qvd_read: 39, then the number of the answer
 abbrev pub readAnswer : List ℕ → List ℕ → ℕ
-readAnswer m room = readingAnswer numberOf (readMessage m) room
+readAnswer m room = readingAnswer numberIn (readMessage m) room
 
 -- what the message says
 abbrev pub readRoom : List ℕ → List ℕ → List ℕ
 readRoom m room = readingRoom (readMessage m) room
 
--- qvd_read_frame, qvd_read_frame_detail: 39, then what is said of the reading's verdict: its number, or all that it says
-abbrev pub frameAnswer : (Verdict → ℕ) → List ℕ → List ℕ → ℕ
+-- qvd_read_frame, qvd_read_frame_detail: 39, then what the answer says: its number, or all of it
+abbrev pub frameAnswer : (List ℕ → ℕ) → List ℕ → List ℕ → ℕ
 frameAnswer say f room = readingAnswer say (readFrame f) room
 
 -- what the frame's message says
@@ -143,7 +139,7 @@ frameRoom f room = readingRoom (readFrame f) room
 
 -- qvd_write: 39, then the number of the writing
 unfoldable pub writeAnswer : List ℕ → List ℕ → ℕ
-writeAnswer k room = sized (isContents k) (numberOf (verdictOf (writeRefusal room (contentsOf k))))
+writeAnswer k room = sized (isContents k) (numberIn (refusedBy (writeRefusal room (contentsOf k))))
 
 -- the message of the contents
 unfoldable pub writeRoom : List ℕ → List ℕ → List ℕ

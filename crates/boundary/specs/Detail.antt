@@ -1,11 +1,9 @@
--- 02, CR 1: a verdict with all that it says, in one number for C.
+-- 02, CR 1: all that is said of a frame, in one number for C.
 use Prim.Native.Nat.{ℕ, _+_, _*_}
-use Rattle.verdict.specs.declared.Verdict.{Verdict}
-use Rattle.verdict.specs.declared.Verdict.the-variants.{Taken, Refused, Parity, Places}
+use mathlib.Core.List.{List}
+use lib.ListN.{getD}
+use Rattle.verdict.specs.Verdict.{numberIn}
 
 -- the refusal number; for 6 also 256 × the first failing group and 65536 × how many fail; for 19 also 256 × the number of set bits
-abbrev pub detailOf : Verdict → ℕ
-detailOf Taken = 0
-detailOf (Refused n) = n
-detailOf (Parity first failing) = 6 + 256 * first + 65536 * failing
-detailOf (Places set) = 19 + 256 * set
+abbrev pub detailIn : List ℕ → ℕ
+detailIn said = numberIn said + 256 * getD said 1 0 + 65536 * getD said 2 0

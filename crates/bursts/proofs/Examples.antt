@@ -15,9 +15,8 @@ use Rattle.bits.proofs.RunLaws.{bit-none}
 use Rattle.check24.specs.Check.{feedOf, checkBits, checkOf}
 use Rattle.judge.specs.Judge.{refusalOf}
 use Rattle.contents.specs.Parts.{contentsAt}
-use Rattle.verdict.specs.Verdict.{numberOf}
-use Rattle.message.specs.Read.{answer, readMessage}
-use Rattle.message.specs.declared.Reading.{Reading}
+use Rattle.verdict.specs.Verdict.{numberIn}
+use Rattle.message.specs.Read.{Answer, answer, readMessage}
 use Rattle.bursts.specs.Burst.{refusal, Changed, Run, refusedWith, Caught}
 
 -- 01's all-zero message, and the same with the polynomial's 25 digits, 0x1864CFB, in bits 461 to 485
@@ -74,5 +73,5 @@ pub not-25 : Caught 25 → ⊥
 not-25 h =
     let z : refusal zeros ≡ 8 = both-8 .0 in
     let r : readMessage pattern ≡ refusedWith 7 = h zeros pattern (λ a. omega arith, λ a. omega arith, λ a. omega arith) run-25 in
-    let e : refusal pattern ≡ 7 = ap (λ (x : Reading). numberOf (x .verdict)) r in
+    let e : refusal pattern ≡ 7 = ap (λ (x : Answer). numberIn (x .said)) r in
     omega (arith, both-8 .1)

@@ -6,14 +6,13 @@ use mathlib.Core.List.{List}
 use lib.ListN.{length}
 use Rattle.bits.specs.Bits.{bitAt}
 use Rattle.contents.specs.Parts.{noContents}
-use Rattle.verdict.specs.Verdict.{numberOf}
-use Rattle.message.specs.Read.{readMessage}
+use Rattle.verdict.specs.Verdict.{says, numberIn}
+use Rattle.message.specs.Read.{Answer, readMessage}
 use Rattle.verdict.specs.declared.Verdict.the-variants.{Refused}
-use Rattle.message.specs.declared.Reading.{Reading}
 
 -- 02, CR 8: the number that the message is refused with, as read without a ledger; 0 if it is taken
 abbrev pub refusal : List ℕ → ℕ
-refusal s = numberOf (readMessage s .verdict)
+refusal s = numberIn (readMessage s .said)
 
 -- 02, CR 8: "refused neither 1, 2 nor 7"
 abbrev pub Passes : List ℕ → Type 0
@@ -33,8 +32,8 @@ pub record Run (k : ℕ) (s t : List ℕ) : Type 0 where
   pub more : Changed s t one
 
 -- 01, Refusal numbers: refused with n, and nothing else said
-abbrev pub refusedWith : ℕ → Reading
-refusedWith n = record { verdict = Refused n; contents = noContents }
+abbrev pub refusedWith : ℕ → Answer
+refusedWith n = record { said = says (Refused n); contents = noContents }
 
 -- 02, CR 8: "the changed message is refused 7", whatever the message and the run
 abbrev pub Caught : ℕ → Type 0

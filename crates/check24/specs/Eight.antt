@@ -1,7 +1,6 @@
 -- The check of 24 bits, eight bits at once (01, Parity and check bits).
 use Prim.Native.Nat.{ℕ, zero, suc, _*_, _^_}
 use mathlib.Core.List.{List}
-use lib.Bits.{bitXor}
 use Rattle.bits.specs.Poly.{timesX}
 use Rattle.bits.specs.Table.{table}
 use Rattle.check24.specs.Check.{polynomial}
@@ -10,10 +9,6 @@ use Rattle.check24.specs.Check.{polynomial}
 unfoldable pub shifted : ℕ → ℕ → ℕ
 shifted zero a = a
 shifted (suc n) a = timesX 23 polynomial (shifted n a)
-
--- 01, Parity and check bits: the register r after the eight bits of the byte b, which are added to its top
-unfoldable pub feedEight : ℕ → ℕ → ℕ
-feedEight r b = shifted 8 (bitXor r (b * 2 ^ 16))
 
 -- the table of what eight zero bits make of a register that holds k in its top eight bits, and nothing else
 unfoldable pub eights : List ℕ

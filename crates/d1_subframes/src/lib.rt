@@ -3,7 +3,7 @@ ghost use mathlib.Core.Path.{_≡_};
 ghost use mathlib.Core.Bool.{false};
 ghost use Prim.Native.Nat.{_*_, _<_};
 ghost use Rattle.bits.specs.Bits.{fieldAt};
-ghost use Rattle.verdict.specs.Verdict.{verdictOf};
+ghost use Rattle.verdict.specs.Verdict.{says, refusedBy};
 ghost use Rattle.d1_subframes.specs.Subframe.{widthOf, placeOf, infoOf, sentOf, dataOf, subframeOf};
 ghost use Rattle.d1_subframes.specs.Subframe.{refusalOf, readRefusal, writeRefusal, readInto, writtenInto};
 use verdict::Verdict;
@@ -96,7 +96,7 @@ fn refusal_of(d: &[u8]) -> u8
 
 // A subframe is read into a lent room of 28 bytes: refusals 31 to 34, lowest first. On a refusal the room is as it was.
 pub fn read_subframe(room: &mut [u8], s: &[u8]) -> Verdict
-    ensures verdict { λ r. ⌜ r ≡ verdictOf (readRefusal (now (room .entry)) (now (s .entry))) ⌝ }
+    ensures verdict { λ r. ⌜ says r ≡ refusedBy (readRefusal (now (room .entry)) (now (s .entry))) ⌝ }
     ensures bytes { λ r. ⌜ now (room .exit) ≡ readInto (now (room .entry)) (now (s .entry)) ⌝ }
 {
     let closing = bits::get8(s, 300, 4);
@@ -114,7 +114,7 @@ pub fn read_subframe(room: &mut [u8], s: &[u8]) -> Verdict
 
 // A subframe is written into a lent room of 38 bytes: refusals 31 to 34, lowest first. On a refusal the room is as it was.
 pub fn write_subframe(room: &mut [u8], s: &[u8]) -> Verdict
-    ensures verdict { λ r. ⌜ r ≡ verdictOf (writeRefusal (now (room .entry)) (now (s .entry))) ⌝ }
+    ensures verdict { λ r. ⌜ says r ≡ refusedBy (writeRefusal (now (room .entry)) (now (s .entry))) ⌝ }
     ensures bytes { λ r. ⌜ now (room .exit) ≡ writtenInto (now (room .entry)) (now (s .entry)) ⌝ }
 {
     if (s.len() != 28) | (room.len() != 38) {

@@ -3,10 +3,9 @@ use mathlib.Core.Path.{_≡_, refl, sym, _∙_}
 use mathlib.Core.Bool.{Bool}
 use Prim.Native.Nat.{ℕ, _*_, _/_, _%_}
 use mathlib.Core.List.{List, [], _∷_, _++_}
-use lib.ListN.{length, replicate, length-append}
+use lib.ListN.{length, length-append}
 use native.Mathlib.Omega.{arith}
 use Rattle.bits.specs.Bytes.{storeAt}
-use Rattle.bits.specs.Table.{table}
 use Rattle.bits.proofs.TableLaws.{length-table}
 use Rattle.records.specs.declared.orbit.Orbit.{Orbit}
 use Rattle.records.specs.declared.clock.Clock.{Clock}
@@ -14,7 +13,6 @@ use Rattle.contents.specs.declared.parts.MaskPart.{MaskPart}
 use Rattle.contents.specs.declared.parts.ClockPart.{ClockPart}
 use Rattle.contents.specs.declared.parts.OrbitPart.{OrbitPart}
 use Rattle.contents.specs.declared.parts.Contents.{Contents}
-use Rattle.contents.specs.Parts.{noContents, noMask, noClocks, noOrbits}
 use Rattle.list.specs.declared.row.Row.{Row}
 use Rattle.flat_forms.specs.Write.{flagsOf, clockRow, orbitRow, rowsTo, maskHead, clockHead, orbitHead, maskBytes, clocksBytes, orbitsBytes, contentsBytes, rowList, rowBytes}
 use Rattle.flat_forms.proofs.StoreLaws.{store-two, store-whole, length-rows}
@@ -90,8 +88,3 @@ contents-whole s c e = store-whole s (contentsBytes c) (e ∙ sym (contents-long
 
 pub row-whole : (s : List ℕ) (r : Row) → length s ≡ 27 → storeAt s 0 (rowBytes r) ≡ rowBytes r
 row-whole s r e = store-whole s (rowBytes r) e
-
--- ---- 01, Refusal numbers: a refusal answers only its number: contents that are all zero are 488 zeros
-pub none-zero : contentsBytes noContents ≡ replicate 488 0
-unfolding contentsBytes maskBytes clocksBytes orbitsBytes flagsOf rowsTo table noContents noMask noClocks noOrbits
-none-zero = refl

@@ -1,4 +1,4 @@
--- Laws of a frame's verdict: its number, and which numbers a frame has by itself.
+-- Laws of what is said of a frame: its number, and which numbers a frame has by itself.
 use mathlib.Core.Path.{_≡_, sym, ap, _∙_}
 use mathlib.Core.Logic.{_≢_, dite}
 use mathlib.Core.Bool.{Bool, not}
@@ -17,23 +17,28 @@ use Rattle.contents.specs.Parts.{noContents}
 use Rattle.contents.specs.declared.parts.Contents.{Contents}
 use Rattle.layout.proofs.LayoutLaws.{pick-all}
 use Rattle.judge.specs.Judge.{isKind, tooLong, late, highSlot, twice, reservedBit, refusalOf}
-use Rattle.verdict.specs.Verdict.{numberOf, verdictOf}
-use Rattle.message.specs.Read.{answer}
+use Rattle.verdict.specs.Verdict.{says, numberIn, refusedBy}
+use Rattle.message.specs.Read.{readingSays, answer}
 use Rattle.verdict.specs.declared.Verdict.{Verdict}
 use Rattle.message.specs.declared.Reading.{Reading}
 use Rattle.verdict.proofs.NumberLaws.{number-back}
-use Rattle.frame.specs.Frame.{contentsOf, shellRefusal, refusalWith, verdictFor, readWith}
+use Rattle.frame.specs.Frame.{contentsOf, shellRefusal, refusalWith, frameSays, readWith}
 use Rattle.frame.proofs.FrameLaws.{leading, second}
 
 -- a number other than 6 is told alone
-pub told-alone : (f : List ℕ) (n : ℕ) → n ≢ 6 → verdictFor f n ≡ verdictOf n
-unfolding verdictFor
+pub told-alone : (f : List ℕ) (n : ℕ) → n ≢ 6 → frameSays f n ≡ refusedBy n
+unfolding frameSays
 told-alone f n e = rw (ne-eqb n 6 e)
 
--- the number of a number's verdict is that number
-pub verdict-number : (f : List ℕ) (n : ℕ) → numberOf (verdictFor f n) ≡ n
-unfolding verdictFor
-verdict-number f n = dite (ℕ-discrete n 6) (λ e. rw (eq-eqb n 6 e) (sym e)) (λ e. rw (ne-eqb n 6 e) (number-back n))
+-- the number in what is said of a number is that number
+pub frame-number : (f : List ℕ) (n : ℕ) → numberIn (frameSays f n) ≡ n
+unfolding frameSays
+frame-number f n = dite (ℕ-discrete n 6) (λ e. rw (eq-eqb n 6 e) (sym e)) (λ e. rw (ne-eqb n 6 e) (number-back n))
+
+-- and where it is 0, nothing is said
+pub frame-quiet : (f : List ℕ) (n : ℕ) → numberIn (frameSays f n) ≡ 0 → frameSays f n ≡ []
+unfolding frameSays
+frame-quiet f n e = ap (frameSays f) (sym (frame-number f n) ∙ e)
 
 -- what holds of 0 and of each of six numbers holds of the first that is given
 among : (P : ℕ → Type 0) (a b c d e f : ℕ) → P 0 → P a → P b → P c → P d → P e → P f → (p q r s t u : Bool) → P (first ((a, p) ∷ (b, q) ∷ (c, r) ∷ (d, s) ∷ (e, t) ∷ (f, u) ∷ []))
@@ -89,17 +94,17 @@ frame-not-19 foreign f =
 -- ---- the two ways that reading a frame goes
 module _ (foreign : Bool) (f : List ℕ) where
   -- the frame around its message is refused
-  pub way-shut : (v : Verdict) (c : Contents) → v ≡ verdictFor f (shellRefusal foreign f) → c ≡ noContents → numberOf v ≢ 0 → _≡_ {A = Reading} (record { verdict = v; contents = c }) (readWith foreign f)
+  pub way-shut : (v : Verdict) (c : Contents) → says v ≡ frameSays f (shellRefusal foreign f) → c ≡ noContents → numberIn (says v) ≢ 0 → readingSays (record { verdict = v; contents = c }) ≡ readWith foreign f
   unfolding readWith refusalWith
   way-shut v c e z n =
       let q = shellRefusal foreign f in
-      let some : q ≢ 0 = λ a. n (ap numberOf e ∙ verdict-number f q ∙ a) in
+      let some : q ≢ 0 = λ a. n (ap numberIn e ∙ frame-number f q ∙ a) in
       rw (leading q (refusalOf (contentsOf f)) some, ne-eqb q 0 some, e, z)
 
   -- it is not, and its contents are judged
-  pub way-open : (v : Verdict) (r : Reading) → v ≡ verdictFor f (shellRefusal foreign f) → numberOf v ≡ 0 → r ≡ answer (refusalOf (contentsOf f)) (contentsOf f) → r ≡ readWith foreign f
+  pub way-open : (v : Verdict) (r : Reading) → says v ≡ frameSays f (shellRefusal foreign f) → numberIn (says v) ≡ 0 → readingSays r ≡ answer (refusalOf (contentsOf f)) (contentsOf f) → readingSays r ≡ readWith foreign f
   unfolding readWith refusalWith answer
   way-open v r e n a =
       let q = refusalOf (contentsOf f) in
-      let zero = sym (verdict-number f (shellRefusal foreign f)) ∙ ap numberOf (sym e) ∙ n in
+      let zero = sym (frame-number f (shellRefusal foreign f)) ∙ ap numberIn (sym e) ∙ n in
       a ∙ rw (second (shellRefusal foreign f) q zero, told-alone f q (contents-not-6 (contentsOf f)))

@@ -11,11 +11,9 @@ use Rattle.check24.specs.Check.{checkOk}
 use Rattle.parity.specs.Parity.{parityOk, failedGroups}
 use Rattle.contents.specs.Parts.{contentsAt, noContents}
 use Rattle.judge.specs.Judge.{refusalOf}
-use Rattle.verdict.specs.Verdict.{verdictOf}
-use Rattle.verdict.specs.declared.Verdict.{Verdict}
-use Rattle.verdict.specs.declared.Verdict.the-variants.{Parity}
+use Rattle.verdict.specs.Verdict.{refusedBy}
 use Rattle.contents.specs.declared.parts.Contents.{Contents}
-use Rattle.message.specs.declared.Reading.{Reading}
+use Rattle.message.specs.Read.{Answer}
 
 -- 01: the satellite's PRN, after the sync
 abbrev pub prnOf : List ℕ → ℕ
@@ -42,17 +40,17 @@ unfoldable pub refusalWith : Bool → List ℕ → ℕ
 refusalWith foreign f =
     first ((shellRefusal foreign f, not (eqb (shellRefusal foreign f) 0)) ∷ (refusalOf (contentsOf f), not (eqb (refusalOf (contentsOf f)) 0)) ∷ [])
 
--- 02, CR 1: the verdict of a frame's number; 6 also gives the first failing group and how many of the 81 fail
-unfoldable pub verdictFor : List ℕ → ℕ → Verdict
-verdictFor f n = pick (eqb n 6) (Parity (failedGroups f .first) (failedGroups f .failing)) (verdictOf n)
+-- 02, CR 1: what is said of a frame's number; 6 also gives the first failing group and how many of the 81 fail
+unfoldable pub frameSays : List ℕ → ℕ → List ℕ
+frameSays f n = pick (eqb n 6) (6 ∷ failedGroups f .first ∷ failedGroups f .failing ∷ []) (refusedBy n)
 
 -- the answer: the contents, or only the refusal
-unfoldable pub readWith : Bool → List ℕ → Reading
+unfoldable pub readWith : Bool → List ℕ → Answer
 readWith foreign f =
-    record { verdict = verdictFor f (refusalWith foreign f); contents = pick (eqb (refusalWith foreign f) 0) (contentsOf f) noContents }
+    record { said = frameSays f (refusalWith foreign f); contents = pick (eqb (refusalWith foreign f) 0) (contentsOf f) noContents }
 
 -- 01: reading without a ledger makes no check 4
-abbrev pub readFrame : List ℕ → Reading
+abbrev pub readFrame : List ℕ → Answer
 readFrame f = readWith false f
 
 -- 01: a ledger is made for one PRN among 1 to 5 and 59 to 63
@@ -63,6 +61,6 @@ isPrn prn = (leb 1 prn && leb prn 5) || (leb 59 prn && leb prn 63)
 abbrev pub foreignTo : ℕ → List ℕ → Bool
 foreignTo prn f = not (isPrn prn && eqb (prnOf f) prn)
 
--- the verdict on the frame around its message, for a ledger's PRN
-abbrev pub shellFor : ℕ → List ℕ → Verdict
-shellFor prn f = verdictFor f (shellRefusal (foreignTo prn f) f)
+-- what is said of the frame around its message, for a ledger's PRN
+abbrev pub shellFor : ℕ → List ℕ → List ℕ
+shellFor prn f = frameSays f (shellRefusal (foreignTo prn f) f)

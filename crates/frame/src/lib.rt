@@ -1,6 +1,8 @@
 // Frames of 125 bytes, read without a ledger or for one PRN: 01, "What arrives and what is handled".
 ghost use mathlib.Core.Path.{_≡_};
-ghost use Rattle.frame.specs.Frame.{prnOf, isPrn, shellRefusal, verdictFor, readFrame, shellFor, readWith};
+ghost use Rattle.verdict.specs.Verdict.{says};
+ghost use Rattle.message.specs.Read.{readingSays};
+ghost use Rattle.frame.specs.Frame.{prnOf, isPrn, shellRefusal, frameSays, readFrame, shellFor, readWith};
 use contents::parts::no_contents;
 use contents::read::contents_at;
 use judge::refusal_of;
@@ -18,7 +20,7 @@ pub fn prn_of(f: &[u8]) -> u8
 
 // The verdict on the frame around its message: the lowest of 1, 3, 4 where it is foreign, 5, 6, 7, or taken.
 fn shell_verdict(f: &[u8], foreign: bool) -> Verdict
-    ensures { λ r. ⌜ r ≡ verdictFor (now (f .entry)) (shellRefusal foreign (now (f .entry))) ⌝ }
+    ensures { λ r. ⌜ says r ≡ frameSays (now (f .entry)) (shellRefusal foreign (now (f .entry))) ⌝ }
 {
     if f.len() != 125 {
         return Verdict::Refused(1);
@@ -44,7 +46,7 @@ fn shell_verdict(f: &[u8], foreign: bool) -> Verdict
 
 // The frame's message, or the lowest refusal; foreign says whether 4 applies.
 fn read_with(f: &[u8], foreign: bool) -> Reading
-    ensures { λ r. ⌜ r ≡ readWith foreign (now (f .entry)) ⌝ }
+    ensures { λ r. ⌜ readingSays r ≡ readWith foreign (now (f .entry)) ⌝ }
 {
     let verdict = shell_verdict(f, foreign);
     if number_of(verdict) != 0 {
@@ -57,7 +59,7 @@ fn read_with(f: &[u8], foreign: bool) -> Reading
 
 // A frame read without a ledger: refusals 1, 3, 5 to 13.
 pub fn read_frame(f: &[u8]) -> Reading
-    ensures { λ r. ⌜ r ≡ readFrame (now (f .entry)) ⌝ }
+    ensures { λ r. ⌜ readingSays r ≡ readFrame (now (f .entry)) ⌝ }
 {
     read_with(f, false)
 }
@@ -71,7 +73,7 @@ pub fn is_prn(prn: u8) -> bool
 
 // The verdict on the frame around its message, for one PRN: refusals 1, 3 to 7, or taken.
 pub fn shell_for(f: &[u8], prn: u8) -> Verdict
-    ensures { λ r. ⌜ r ≡ shellFor prn (now (f .entry)) ⌝ }
+    ensures { λ r. ⌜ says r ≡ shellFor prn (now (f .entry)) ⌝ }
 {
     let own = is_prn(prn) & (prn_of(f) == prn);
     shell_verdict(f, !own)

@@ -21,11 +21,11 @@ use Rattle.held_clocks.specs.Clocks.{noClock, clocksKept, clockOf, clocksAt}
 use Rattle.held_orbits.specs.Orbits.{noOrbit, orbitOf, orbitsAt}
 use Rattle.held_clocks.specs.declared.HeldClock.{HeldClock}
 use Rattle.held_orbits.specs.declared.HeldOrbit.{HeldOrbit}
-use Rattle.held_mask.specs.Mask.{HeldMask, noMask, sameMask, maskAt}
+use Rattle.held_mask.specs.Mask.{HeldMask, sameMask, maskAt}
 use Rattle.held_mask.proofs.MaskLaws.{mask-eq}
-use Rattle.places.specs.Keeps.{maskOf, orbitsOf, clocksOf, refusalUnder, verdictUnder}
-use Rattle.in_force.specs.Back.{maskInForce, refusalAfter, verdictAfter, accepted, maskBy, orbitBy, clockBy, orbitInForce, clockBack}
-use Rattle.in_force.specs.Bytes.{fresh, takenBytes, takeRefusal, takeVerdict, takeBytes, runBytes, Holds}
+use Rattle.places.specs.Keeps.{maskOf, orbitsOf, clocksOf, refusalUnder, saysUnder}
+use Rattle.in_force.specs.Back.{maskInForce, refusalAfter, saysAfter, accepted, maskBy, orbitBy, clockBy, orbitInForce, clockBack}
+use Rattle.in_force.specs.Bytes.{fresh, takenBytes, takeRefusal, takeSays, takeBytes, runBytes, Holds}
 use Rattle.places.proofs.KeepLaws.{mask-other, mask-kind, mask-clocks, mask-free}
 use Rattle.in_force.proofs.ViewLaws.{taken-room, taken-mask, taken-orbits, taken-clocks, clock-listed, orbit-listed, fresh-long, fresh-prn, fresh-mask, fresh-clock, fresh-orbit}
 
@@ -144,8 +144,8 @@ holds-run s prn (f ∷ h) long = holds-step (runBytes (fresh s prn) h) prn h f (
 pub refusal-run : (s : List ℕ) (prn : ℕ) (h : List (List ℕ)) (f : List ℕ) → length s ≡ size → takeRefusal (runBytes (fresh s prn) h) f ≡ refusalAfter prn h f
 refusal-run s prn h f long = refusal-step (runBytes (fresh s prn) h) prn h f (holds-run s prn h long)
 
--- and by the verdict
-pub verdict-run : (s : List ℕ) (prn : ℕ) (h : List (List ℕ)) (f : List ℕ) → length s ≡ size → takeVerdict (runBytes (fresh s prn) h) f ≡ verdictAfter prn h f
-verdict-run s prn h f long =
-    ap (λ (m : HeldMask). verdictUnder m f (takeRefusal (runBytes (fresh s prn) h) f)) (holds-run s prn h long .mask)
-    ∙ ap (verdictUnder (maskInForce prn h) f) (refusal-run s prn h f long)
+-- and by what is said of it
+pub says-run : (s : List ℕ) (prn : ℕ) (h : List (List ℕ)) (f : List ℕ) → length s ≡ size → takeSays (runBytes (fresh s prn) h) f ≡ saysAfter prn h f
+says-run s prn h f long =
+    ap (λ (m : HeldMask). saysUnder m f (takeRefusal (runBytes (fresh s prn) h) f)) (holds-run s prn h long .mask)
+    ∙ ap (saysUnder (maskInForce prn h) f) (refusal-run s prn h f long)

@@ -2,23 +2,21 @@
 use mathlib.Core.Path.{_≡_, sym, ap, _∙_}
 use mathlib.Core.Logic.{_≢_, dite}
 use Prim.Native.Nat.{ℕ}
-use mathlib.Core.List.{List}
+use mathlib.Core.List.{List, [], _∷_}
 use native.Mathlib.Decide.{ℕ-discrete}
 use native.Mathlib.Omega.{arith}
 use borrow.Author.Tests.{eq-eqb, ne-eqb}
 use Rattle.judge.specs.Judge.{refusalOf}
-use Rattle.verdict.specs.Verdict.{numberOf, verdictOf}
-use Rattle.verdict.specs.declared.Verdict.{Verdict}
-use Rattle.verdict.specs.declared.Verdict.the-variants.{Taken, Refused}
+use Rattle.verdict.specs.Verdict.{numberIn, refusedBy}
 use Rattle.verdict.proofs.NumberLaws.{number-back}
-use Rattle.frame.specs.Frame.{contentsOf, foreignTo, shellRefusal, refusalWith, verdictFor, shellFor}
+use Rattle.frame.specs.Frame.{contentsOf, foreignTo, shellRefusal, refusalWith, frameSays, shellFor}
 use Rattle.frame.proofs.FrameLaws.{leading, second}
-use Rattle.frame.proofs.VerdictLaws.{told-alone, verdict-number, contents-not-6, frame-not-19}
+use Rattle.frame.proofs.VerdictLaws.{told-alone, frame-number, contents-not-6, frame-not-19}
 use Rattle.held_orbits.specs.Orbits.{orbitsAt, putOrbits}
 use Rattle.held_clocks.specs.Clocks.{putClocks}
 use Rattle.held_mask.specs.Mask.{HeldMask, maskAt}
-use Rattle.places.specs.Keeps.{orbitsOf, clocksOf, maskRefusal, placeVerdict, refusalUnder, verdictUnder}
-use Rattle.in_force.specs.Bytes.{prnAt, maskBytes, takenBytes, takeRefusal, takeVerdict, takeBytes}
+use Rattle.places.specs.Keeps.{orbitsOf, clocksOf, maskRefusal, placeSays, refusalUnder, saysUnder}
+use Rattle.in_force.specs.Bytes.{prnAt, maskBytes, takenBytes, takeRefusal, takeSays, takeBytes}
 use Rattle.places.proofs.KeepLaws.{mask-free, place-own}
 use Rattle.in_force.proofs.ViewLaws.{taken-1, taken-other}
 
@@ -46,58 +44,58 @@ module _ (s f : List ℕ) where
   pub orbits-refused : refusalWith (foreignTo (prnAt s) f) f ≡ 0 → maskRefusal (maskAt s) (contentsOf f) ≢ 0 → orbitsAt (takeBytes s f) ≡ orbitsAt s
   orbits-refused e n = ap orbitsAt (refused-same (λ z. n (rw (clock-refusal e) at z)))
 
--- ---- verdicts and their numbers
--- the number of a verdict on clocks by place
-pub place-number : (m : HeldMask) (n : ℕ) → numberOf (placeVerdict m n) ≡ n
-unfolding placeVerdict
+-- ---- what is said of a number, and the number in it
+-- of clocks by place
+pub place-number : (m : HeldMask) (n : ℕ) → numberIn (placeSays m n) ≡ n
+unfolding placeSays
 place-number m n = dite (ℕ-discrete n 19) (λ e. rw (eq-eqb n 19 e) (sym e)) (λ e. rw (ne-eqb n 19 e) (number-back n))
 
--- the verdict of a number that reading the frame gives, whatever the mask
-pub under-frame : (m : HeldMask) (f : List ℕ) (n : ℕ) → n ≢ 19 → verdictUnder m f n ≡ verdictFor f n
-unfolding verdictUnder placeVerdict
+-- what is said of a number that reading the frame gives, whatever the mask
+pub under-frame : (m : HeldMask) (f : List ℕ) (n : ℕ) → n ≢ 19 → saysUnder m f n ≡ frameSays f n
+unfolding saysUnder placeSays
 under-frame m f n e =
     dite (ℕ-discrete n 6)
     (λ six. rw (eq-eqb n 6 six))
     (λ other. rw (ne-eqb n 6 other, ne-eqb n 19 e) (sym (told-alone f n other)))
 
--- the verdict of a number that the mask gives, whatever the frame
-pub under-mask : (m : HeldMask) (f : List ℕ) (n : ℕ) → n ≢ 6 → verdictUnder m f n ≡ placeVerdict m n
-unfolding verdictUnder
+-- what is said of a number that the mask gives, whatever the frame
+pub under-mask : (m : HeldMask) (f : List ℕ) (n : ℕ) → n ≢ 6 → saysUnder m f n ≡ placeSays m n
+unfolding saysUnder
 under-mask m f n e = rw (ne-eqb n 6 e)
 
--- 01's number is that of the verdict
-pub under-number : (m : HeldMask) (f : List ℕ) (n : ℕ) → numberOf (verdictUnder m f n) ≡ n
+-- 01's number is the one in what is said
+pub under-number : (m : HeldMask) (f : List ℕ) (n : ℕ) → numberIn (saysUnder m f n) ≡ n
 under-number m f n =
     dite (ℕ-discrete n 6)
-    (λ six. ap numberOf (under-frame m f n (λ e. let z : _≡_ {A = ℕ} 6 19 = sym six ∙ e in omega arith)) ∙ verdict-number f n)
-    (λ other. ap numberOf (under-mask m f n other) ∙ place-number m n)
+    (λ six. ap numberIn (under-frame m f n (λ e. let z : _≡_ {A = ℕ} 6 19 = sym six ∙ e in omega arith)) ∙ frame-number f n)
+    (λ other. ap numberIn (under-mask m f n other) ∙ place-number m n)
 
 -- ---- the ways that taking a frame goes
 module _ (s f : List ℕ) where
   shell : ℕ
   shell = shellRefusal (foreignTo (prnAt s) f) f
 
-  -- what is wrong with the frame by itself, and its verdict, is what the ledger answers
-  frame-verdict : refusalWith (foreignTo (prnAt s) f) f ≢ 0 → (verdictFor f (refusalWith (foreignTo (prnAt s) f) f) ≡ takeVerdict s f) × (s ≡ takeBytes s f)
-  frame-verdict z =
+  -- what is said of a frame that is wrong by itself is what the ledger says
+  frame-said : refusalWith (foreignTo (prnAt s) f) f ≢ 0 → (frameSays f (refusalWith (foreignTo (prnAt s) f) f) ≡ takeSays s f) × (s ≡ takeBytes s f)
+  frame-said z =
       let q = refusalWith (foreignTo (prnAt s) f) f in
       let same = frame-refusal s f z in (
-        sym (under-frame (maskAt s) f q (frame-not-19 (foreignTo (prnAt s) f) f)) ∙ ap (verdictUnder (maskAt s) f) (sym same),
+        sym (under-frame (maskAt s) f q (frame-not-19 (foreignTo (prnAt s) f) f)) ∙ ap (saysUnder (maskAt s) f) (sym same),
         sym (refused-same s f (λ y. z (sym same ∙ y))),
       )
 
   -- the frame around its message is refused
-  pub way-shut : (v : Verdict) → v ≡ shellFor (prnAt s) f → numberOf v ≢ 0 → (v ≡ takeVerdict s f) × (s ≡ takeBytes s f)
+  pub way-shut : (v : List ℕ) → v ≡ shellFor (prnAt s) f → numberIn v ≢ 0 → (v ≡ takeSays s f) × (s ≡ takeBytes s f)
   unfolding refusalWith shell
   way-shut v e n =
-      let some : shell ≢ 0 = λ a. n (ap numberOf e ∙ verdict-number f shell ∙ a) in
+      let some : shell ≢ 0 = λ a. n (ap numberIn e ∙ frame-number f shell ∙ a) in
       let same = leading shell (refusalOf (contentsOf f)) some in
-      let w = frame-verdict (λ y. some (sym same ∙ y)) in
-      (e ∙ ap (verdictFor f) (sym same) ∙ w .0, w .1)
+      let w = frame-said (λ y. some (sym same ∙ y)) in
+      (e ∙ ap (frameSays f) (sym same) ∙ w .0, w .1)
 
   -- it is not
-  pub way-open : (v : Verdict) → v ≡ shellFor (prnAt s) f → numberOf v ≡ 0 → shellRefusal (foreignTo (prnAt s) f) f ≡ 0
-  way-open v e n = sym (verdict-number f (shellRefusal (foreignTo (prnAt s) f) f)) ∙ ap numberOf (sym e) ∙ n
+  pub way-open : (v : List ℕ) → v ≡ shellFor (prnAt s) f → numberIn v ≡ 0 → shellRefusal (foreignTo (prnAt s) f) f ≡ 0
+  way-open v e n = sym (frame-number f (shellRefusal (foreignTo (prnAt s) f) f)) ∙ ap numberIn (sym e) ∙ n
 
   module _ (sound : shellRefusal (foreignTo (prnAt s) f) f ≡ 0) (n : ℕ) (judged : n ≡ refusalOf (contentsOf f)) where
     frame-judged : refusalWith (foreignTo (prnAt s) f) f ≡ n
@@ -105,46 +103,46 @@ module _ (s f : List ℕ) where
     frame-judged = second (shellRefusal (foreignTo (prnAt s) f) f) (refusalOf (contentsOf f)) sound ∙ sym judged
 
     -- its contents are refused
-    pub way-judged : n ≢ 0 → (Refused n ≡ takeVerdict s f) × (s ≡ takeBytes s f)
+    pub way-judged : n ≢ 0 → (n ∷ [] ≡ takeSays s f) × (s ≡ takeBytes s f)
     way-judged z =
-        let w = frame-verdict (λ y. z (sym frame-judged ∙ y)) in
-        let alone : verdictOf n ≡ Refused n = rw (ne-eqb n 0 z) in
-        (sym alone ∙ sym (told-alone f n (λ six. contents-not-6 (contentsOf f) (sym judged ∙ six))) ∙ ap (verdictFor f) (sym frame-judged) ∙ w .0, w .1)
+        let w = frame-said (λ y. z (sym frame-judged ∙ y)) in
+        let alone : refusedBy n ≡ n ∷ [] = rw (ne-eqb n 0 z) in
+        (sym alone ∙ sym (told-alone f n (λ six. contents-not-6 (contentsOf f) (sym judged ∙ six))) ∙ ap (frameSays f) (sym frame-judged) ∙ w .0, w .1)
 
     -- they are not: what the mask says is what the ledger answers
     good : n ≡ 0 → takeRefusal s f ≡ maskRefusal (maskAt s) (contentsOf f)
     good z = clock-refusal s f (frame-judged ∙ z)
 
     -- a type 1 is taken
-    pub way-taken-1 : n ≡ 0 → contentsOf f .kind ≡ 1 → (t : List ℕ) → t ≡ maskBytes s (contentsOf f .mask) → (Taken ≡ takeVerdict s f) × (t ≡ takeBytes s f)
-    unfolding placeVerdict verdictUnder
+    pub way-taken-1 : n ≡ 0 → contentsOf f .kind ≡ 1 → (t : List ℕ) → t ≡ maskBytes s (contentsOf f .mask) → ([] ≡ takeSays s f) × (t ≡ takeBytes s f)
+    unfolding placeSays saysUnder
     way-taken-1 z k t b =
         let none = good z ∙ mask-free (contentsOf f) k (maskAt s) in
-        (ap (verdictUnder (maskAt s) f) (sym none), b ∙ sym (taken-1 s (contentsOf f) k) ∙ sym (taken-whole s f none))
+        (ap (saysUnder (maskAt s) f) (sym none), b ∙ sym (taken-1 s (contentsOf f) k) ∙ sym (taken-whole s f none))
 
-    module _ (z : n ≡ 0) (p : Verdict) (q : p ≡ placeVerdict (maskAt s) (maskRefusal (maskAt s) (contentsOf f))) where
-      number-placed : numberOf p ≡ maskRefusal (maskAt s) (contentsOf f)
-      number-placed = ap numberOf q ∙ place-number (maskAt s) (maskRefusal (maskAt s) (contentsOf f))
+    module _ (z : n ≡ 0) (p : List ℕ) (q : p ≡ placeSays (maskAt s) (maskRefusal (maskAt s) (contentsOf f))) where
+      number-placed : numberIn p ≡ maskRefusal (maskAt s) (contentsOf f)
+      number-placed = ap numberIn q ∙ place-number (maskAt s) (maskRefusal (maskAt s) (contentsOf f))
 
-      told : p ≡ takeVerdict s f
+      told : p ≡ takeSays s f
       told =
           q
           ∙ sym (under-mask (maskAt s) f (maskRefusal (maskAt s) (contentsOf f)) (place-own (maskAt s) (contentsOf f .kind) (contentsOf f .clock)))
-          ∙ ap (verdictUnder (maskAt s) f) (sym (good z))
+          ∙ ap (saysUnder (maskAt s) f) (sym (good z))
 
       -- its clock part is refused
-      pub way-refused : numberOf p ≢ 0 → (p ≡ takeVerdict s f) × (s ≡ takeBytes s f)
+      pub way-refused : numberIn p ≢ 0 → (p ≡ takeSays s f) × (s ≡ takeBytes s f)
       way-refused y = (told, sym (refused-same s f (λ x. y (number-placed ∙ sym (good z) ∙ x))))
 
       -- its clock part is not refused
-      pub way-placed : numberOf p ≡ 0 → maskRefusal (maskAt s) (contentsOf f) ≡ 0
+      pub way-placed : numberIn p ≡ 0 → maskRefusal (maskAt s) (contentsOf f) ≡ 0
       way-placed y = sym number-placed ∙ y
 
       -- taken
-      pub way-taken : numberOf p ≡ 0 → contentsOf f .kind ≢ 1 → (t : List ℕ) →
+      pub way-taken : numberIn p ≡ 0 → contentsOf f .kind ≢ 1 → (t : List ℕ) →
           t ≡ putOrbits (putClocks s (clocksOf (maskAt s) (contentsOf f .kind) (contentsOf f .clock))) (orbitsOf (contentsOf f .kind) (contentsOf f .orbit)) →
-          (Taken ≡ takeVerdict s f) × (t ≡ takeBytes s f)
-      unfolding placeVerdict
+          ([] ≡ takeSays s f) × (t ≡ takeBytes s f)
+      unfolding placeSays
       way-taken y k t b =
-          let taken : p ≡ Taken = q ∙ ap (placeVerdict (maskAt s)) (way-placed y) in
+          let taken : p ≡ [] = q ∙ ap (placeSays (maskAt s)) (way-placed y) in
           (sym taken ∙ told, b ∙ sym (taken-other s (contentsOf f) k) ∙ sym (taken-whole s f (good z ∙ way-placed y)))

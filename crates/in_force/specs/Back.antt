@@ -5,7 +5,6 @@ use mathlib.Core.List.{List, [], _∷_}
 use mathlib.Core.Option.{Option, none}
 use lib.Dec.{eqb}
 use Rattle.bits.specs.Pick.{pick}
-use Rattle.verdict.specs.declared.Verdict.{Verdict}
 use Rattle.frame.specs.Frame.{contentsOf, foreignTo, refusalWith}
 use Rattle.lookback.specs.Store.{naming, getOr, standingOr, since}
 use Rattle.held_clocks.specs.Clocks.{noClock, clocksKept}
@@ -13,7 +12,7 @@ use Rattle.held_orbits.specs.Orbits.{noOrbit}
 use Rattle.held_clocks.specs.declared.HeldClock.{HeldClock}
 use Rattle.held_orbits.specs.declared.HeldOrbit.{HeldOrbit}
 use Rattle.held_mask.specs.Mask.{HeldMask, noMask, sameMask}
-use Rattle.places.specs.Keeps.{maskOf, orbitsOf, clocksOf, refusalUnder, verdictUnder}
+use Rattle.places.specs.Keeps.{maskOf, orbitsOf, clocksOf, refusalUnder, saysUnder}
 
 -- 01, What the ledger keeps: the mask that f brings, where it is an accepted type 1; that depends on no other frame
 unfoldable pub maskBy : ℕ → List ℕ → Option HeldMask
@@ -28,9 +27,9 @@ maskInForce prn (f ∷ h) = getOr (maskBy prn f) (maskInForce prn h)
 abbrev pub refusalAfter : ℕ → List (List ℕ) → List ℕ → ℕ
 refusalAfter prn h f = refusalUnder prn (maskInForce prn h) f
 
--- its verdict
-abbrev pub verdictAfter : ℕ → List (List ℕ) → List ℕ → Verdict
-verdictAfter prn h f = verdictUnder (maskInForce prn h) f (refusalAfter prn h f)
+-- what is said of it
+abbrev pub saysAfter : ℕ → List (List ℕ) → List ℕ → List ℕ
+saysAfter prn h f = saysUnder (maskInForce prn h) f (refusalAfter prn h f)
 
 -- f, handed in after h, is accepted
 abbrev pub accepted : ℕ → List (List ℕ) → List ℕ → Bool

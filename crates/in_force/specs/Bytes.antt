@@ -8,14 +8,13 @@ use lib.ListN.{getD, set, length, take, drop, replicate}
 use Rattle.bits.specs.Pick.{pick}
 use Rattle.contents.specs.declared.parts.MaskPart.{MaskPart}
 use Rattle.contents.specs.declared.parts.Contents.{Contents}
-use Rattle.verdict.specs.declared.Verdict.{Verdict}
 use Rattle.frame.specs.Frame.{contentsOf}
 use Rattle.held_mask.specs.Size.{size}
 use Rattle.held_clocks.specs.Clocks.{clockAt, putClocks, droppedClocks}
 use Rattle.held_orbits.specs.Orbits.{orbitAt, putOrbits}
 use Rattle.held_mask.specs.Mask.{heldMask, sameMask, maskAt, putMask}
 use Rattle.frame.specs.Frame.{isPrn}
-use Rattle.places.specs.Keeps.{orbitsOf, clocksOf, refusalUnder, verdictUnder}
+use Rattle.places.specs.Keeps.{orbitsOf, clocksOf, refusalUnder, saysUnder}
 use Rattle.in_force.specs.Back.{maskInForce, orbitInForce, clockInForce}
 
 -- FORM: the PRN that the ledger is for
@@ -40,9 +39,9 @@ takenBytes s c =
 abbrev pub takeRefusal : List ℕ → List ℕ → ℕ
 takeRefusal s f = refusalUnder (prnAt s) (maskAt s) f
 
--- its verdict
-abbrev pub takeVerdict : List ℕ → List ℕ → Verdict
-takeVerdict s f = verdictUnder (maskAt s) f (takeRefusal s f)
+-- what a ledger says of a frame
+abbrev pub takeSays : List ℕ → List ℕ → List ℕ
+takeSays s f = saysUnder (maskAt s) f (takeRefusal s f)
 
 -- 01: a frame is taken whole or refused whole; a refusal changes nothing
 unfoldable pub takeBytes : List ℕ → List ℕ → List ℕ

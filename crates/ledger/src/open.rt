@@ -1,6 +1,6 @@
 // Opening a ledger for one PRN.
 ghost use mathlib.Core.Path.{_≡_};
-ghost use Rattle.verdict.specs.Verdict.{verdictOf};
+ghost use Rattle.verdict.specs.Verdict.{says, refusedBy};
 ghost use Rattle.in_force.specs.Bytes.{fresh};
 ghost use Rattle.ledger.specs.Open.{openRefusal, openBytes};
 use crate::Ledger;
@@ -19,7 +19,7 @@ pub fn make_fresh(t: &mut [u8], prn: u8)
 
 // A fresh ledger for the PRN; refused 4 for a PRN that is not among the ten.
 pub fn open(ledger: &mut Ledger, prn: u8) -> Verdict
-    ensures verdict { λ r. ⌜ r ≡ verdictOf (openRefusal prn) ⌝ }
+    ensures verdict { λ r. ⌜ says r ≡ refusedBy (openRefusal prn) ⌝ }
     ensures bytes { λ r. ⌜ now (ledger .exit) ≡ openBytes (now (ledger .entry)) prn ⌝ }
 {
     if !is_prn(prn) {

@@ -2,7 +2,7 @@
 ghost use mathlib.Core.Path.{_≡_};
 ghost use Prim.Native.Nat.{_+_, _/_, _<_};
 ghost use lib.ListN.{length};
-ghost use Rattle.verdict.specs.Verdict.{verdictOf};
+ghost use Rattle.verdict.specs.Verdict.{says, refusedBy};
 ghost use Rattle.ledger.specs.Open.{openRefusal};
 ghost use Rattle.in_force.specs.Bytes.{takeBytes, frameAt, runBytes, framesOf, Replayed};
 use crate::Ledger;
@@ -43,7 +43,7 @@ pub fn take_log(t: &mut [u8], log: &[u8])
 
 // A fresh ledger for the PRN has taken the frames of a log: it holds what is in force after them, by looking back.
 pub fn replay(ledger: &mut Ledger, prn: u8, log: &[u8]) -> Verdict
-    ensures verdict { λ r. ⌜ r ≡ verdictOf (openRefusal prn) ⌝ }
+    ensures verdict { λ r. ⌜ says r ≡ refusedBy (openRefusal prn) ⌝ }
     ensures ledger { λ r. ⌜ Replayed (now (ledger .entry)) prn (now (log .entry)) (now (ledger .exit)) ⌝ }
 {
     if !is_prn(prn) {

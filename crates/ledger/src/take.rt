@@ -4,12 +4,13 @@ ghost use mathlib.Core.Bool.{true};
 ghost use mathlib.Core.Logic.{_≢_};
 ghost use Prim.Native.Nat.{_≤_};
 ghost use Rattle.bits.specs.Pick.{pick};
+ghost use Rattle.verdict.specs.Verdict.{says};
 ghost use Rattle.frame.specs.Frame.{contentsOf, foreignTo, shellRefusal};
 ghost use Rattle.held_clocks.specs.Clocks.{putClocks, droppedClocks};
 ghost use Rattle.held_orbits.specs.Orbits.{putOrbits};
 ghost use Rattle.held_mask.specs.Mask.{maskAt, heldMask, sameMask};
 ghost use Rattle.places.specs.Keeps.{orbitsOf, clocksOf, needsMask, firstPlace, placeRefusal};
-ghost use Rattle.in_force.specs.Bytes.{prnAt, maskBytes, takeVerdict, takeBytes};
+ghost use Rattle.in_force.specs.Bytes.{prnAt, maskBytes, takeSays, takeBytes};
 use crate::Ledger;
 use contents::parts::ClockPart;
 use contents::parts::MaskPart;
@@ -129,7 +130,7 @@ fn take_mask(t: &mut [u8], m: MaskPart)
 // A type 1 in a good frame is taken, or refused.
 fn take_type_1(t: &mut [u8], frame: &[u8]) -> Verdict
     requires { ⌜ (shellRefusal (foreignTo (prnAt (now t)) (now frame)) (now frame) ≡ 0) × (contentsOf (now frame) .kind ≡ 1) ⌝ }
-    ensures verdict { λ r. ⌜ r ≡ takeVerdict (now (t .entry)) (now (frame .entry)) ⌝ }
+    ensures verdict { λ r. ⌜ says r ≡ takeSays (now (t .entry)) (now (frame .entry)) ⌝ }
     ensures bytes { λ r. ⌜ now (t .exit) ≡ takeBytes (now (t .entry)) (now (frame .entry)) ⌝ }
 {
     let m = mask_of(frame, 28);
@@ -144,7 +145,7 @@ fn take_type_1(t: &mut [u8], frame: &[u8]) -> Verdict
 // A message of another type in a good frame is taken, or refused.
 fn take_parts(t: &mut [u8], frame: &[u8]) -> Verdict
     requires { ⌜ (shellRefusal (foreignTo (prnAt (now t)) (now frame)) (now frame) ≡ 0) × (contentsOf (now frame) .kind ≢ 1) ⌝ }
-    ensures verdict { λ r. ⌜ r ≡ takeVerdict (now (t .entry)) (now (frame .entry)) ⌝ }
+    ensures verdict { λ r. ⌜ says r ≡ takeSays (now (t .entry)) (now (frame .entry)) ⌝ }
     ensures bytes { λ r. ⌜ now (t .exit) ≡ takeBytes (now (t .entry)) (now (frame .entry)) ⌝ }
 {
     let kind = kind_of(frame, 28);
@@ -165,7 +166,7 @@ fn take_parts(t: &mut [u8], frame: &[u8]) -> Verdict
 
 // A frame is taken into the bytes of a ledger, or refused.
 pub fn take_in(t: &mut [u8], frame: &[u8]) -> Verdict
-    ensures verdict { λ r. ⌜ r ≡ takeVerdict (now (t .entry)) (now (frame .entry)) ⌝ }
+    ensures verdict { λ r. ⌜ says r ≡ takeSays (now (t .entry)) (now (frame .entry)) ⌝ }
     ensures bytes { λ r. ⌜ now (t .exit) ≡ takeBytes (now (t .entry)) (now (frame .entry)) ⌝ }
 {
     let shell = frame::shell_for(frame, ledger_prn(t));
@@ -180,7 +181,7 @@ pub fn take_in(t: &mut [u8], frame: &[u8]) -> Verdict
 
 // A frame is taken into a ledger: refusals 1, 3 to 15 and 19, lowest first. On a refusal every byte is as it was.
 pub fn take(ledger: &mut Ledger, frame: &[u8]) -> Verdict
-    ensures verdict { λ r. ⌜ r ≡ takeVerdict (now (ledger .entry)) (now (frame .entry)) ⌝ }
+    ensures verdict { λ r. ⌜ says r ≡ takeSays (now (ledger .entry)) (now (frame .entry)) ⌝ }
     ensures bytes { λ r. ⌜ now (ledger .exit) ≡ takeBytes (now (ledger .entry)) (now (frame .entry)) ⌝ }
 {
     take_in(ledger, frame)

@@ -70,12 +70,12 @@ rowOf m o k issue slot = pick (qualifies m o k issue slot) (some (rowFrom slot o
 abbrev pub rowHeld : List ℕ → ℕ → ℕ → Option Row
 rowHeld s issue slot = rowOf (maskAt s) (orbitAt s slot) (clockAt s slot) issue slot
 
--- 01, Refusal numbers: the number of each answer; a row is 0
-abbrev pub rowNumber : RowAnswer → ℕ
-rowNumber (Found r) = 0
-rowNumber (Refused n) = n
+-- 01, Refusal numbers: the number and the value of each answer; a row is 0 and the row, a refusal its number alone
+abbrev pub rowSays : RowAnswer → ℕ × Option Row
+rowSays (Found r) = (0, some r)
+rowSays (Refused n) = (n, none)
 
 -- refused with n; else the row, or 18 where there is none
-abbrev pub answerOf : ℕ → Option Row → RowAnswer
-answerOf n (some r) = pick (eqb n 0) (Found r) (Refused n)
-answerOf n none = pick (eqb n 0) (Refused 18) (Refused n)
+abbrev pub answerOf : ℕ → Option Row → ℕ × Option Row
+answerOf n (some r) = pick (eqb n 0) (0, some r) (n, none)
+answerOf n none = pick (eqb n 0) (18, none) (n, none)

@@ -2,17 +2,15 @@
 use Prim.Native.Nat.{ℕ, _≤_}
 use mathlib.Core.Bool.{not, _||_}
 use mathlib.Core.List.{List, [], _∷_}
-use mathlib.Core.Option.{Option}
+use mathlib.Core.Option.{Option, none, some}
 use lib.Dec.{eqb, ltb}
 use lib.ListN.{length}
 use Rattle.bits.specs.Pick.{pick}
 use Rattle.bits.specs.Some.{anyOf, first}
-use Rattle.lookback.specs.Walk.{rows, nthOf}
+use Rattle.lookback.specs.Walk.{toList, rows, nthOf}
 use Rattle.list.specs.Issues.{isIll, issuesRefusal, issueOf}
 use Rattle.list.specs.Row.{rowHeld, answerOf}
 use Rattle.list.specs.declared.row.Row.{Row}
-use Rattle.list.specs.declared.row.RowAnswer.{RowAnswer}
-use Rattle.list.specs.declared.row.RowAnswer.the-variants.{Found, Refused as missed}
 use Rattle.list.specs.declared.rows.Count.{Count}
 use Rattle.list.specs.declared.rows.Count.the-variants.{Rows, Refused}
 
@@ -32,26 +30,25 @@ mostRows = 174
 abbrev pub Fits : List Row → Type 0
 Fits l = length l ≤ mostRows
 
--- 1 for a row, 0 for a refusal
-abbrev pub foundCount : RowAnswer → ℕ
-foundCount (Found r) = 1
-foundCount (missed n) = 0
+-- 1 for an answer with a row, 0 for one without
+abbrev pub foundCount : ℕ × Option Row → ℕ
+foundCount a = length (toList (a .1))
 
--- 01, Refusal numbers: the number of each count; rows are 0
-abbrev pub countNumber : Count → ℕ
-countNumber (Rows n) = 0
-countNumber (Refused n) = n
+-- 01, Refusal numbers: the number and the value of each count; rows are 0 and how many, a refusal its number alone
+abbrev pub countSays : Count → ℕ × Option ℕ
+countSays (Rows n) = (0, some n)
+countSays (Refused n) = (n, none)
 
 -- 01: the number of rows; 1 and 17
-unfoldable pub countAnswer : List ℕ → List ℕ → Count
-countAnswer s is = pick (eqb (issuesRefusal is) 0) (Rows (length (listIn s is))) (Refused (issuesRefusal is))
+unfoldable pub countAnswer : List ℕ → List ℕ → ℕ × Option ℕ
+countAnswer s is = pick (eqb (issuesRefusal is) 0) (0, some (length (listIn s is))) (issuesRefusal is, none)
 
 -- 01: the n-th row, from 1; 1, 17, and 18 for a position 0 or above the number of rows
-unfoldable pub rowAtAnswer : List ℕ → List ℕ → ℕ → RowAnswer
+unfoldable pub rowAtAnswer : List ℕ → List ℕ → ℕ → ℕ × Option Row
 rowAtAnswer s is n = answerOf (issuesRefusal is) (nthOf (listIn s is) n)
 
 -- 01: the row of a slot; 1, 11 for slot 0 or above 255, 17, 18 if it does not qualify
-unfoldable pub rowOfSlotAnswer : List ℕ → List ℕ → ℕ → RowAnswer
+unfoldable pub rowOfSlotAnswer : List ℕ → List ℕ → ℕ → ℕ × Option Row
 rowOfSlotAnswer s is slot =
     answerOf
     (first ((1, not (eqb (length is) 255)) ∷ (11, eqb slot 0 || ltb 255 slot) ∷ (17, anyOf isIll is) ∷ []))

@@ -1,10 +1,6 @@
 // One satellite's row: whether it qualifies, and what its row says.
 ghost use mathlib.Core.Path.{_≡_};
-ghost use lib.Dec.{eqb};
-ghost use lib.IntN.{negsuc};
-ghost use mathlib.Core.Option.{some, none};
-ghost use Rattle.held_mask.specs.Mask.{maskAt};
-ghost use Rattle.list.specs.Row.{isAssigned, isKnown, usable, agrees, rowFrom, rowHeld, answerOf};
+ghost use Rattle.list.specs.Row.{isAssigned, isKnown, usable, agrees, rowFrom, rowHeld, rowSays, answerOf};
 use held_clocks::HeldClock;
 use held_orbits::HeldOrbit;
 use records::slots::Slot;
@@ -92,7 +88,7 @@ fn row_from(slot: Slot, o: HeldOrbit, k: HeldClock) -> Row
 
 // The row of a slot by what the ledger holds and the slot's issue; refused 18 if it does not qualify.
 pub fn slot_row(ledger: &[u8], slot: Slot, issue: u16) -> RowAnswer
-    ensures { λ r. ⌜ r ≡ answerOf 0 (rowHeld (now (ledger .entry)) issue (slot .0)) ⌝ }
+    ensures { λ r. ⌜ rowSays r ≡ answerOf 0 (rowHeld (now (ledger .entry)) issue (slot .0)) ⌝ }
 {
     if !is_assigned(slot) {
         return RowAnswer::Refused(18);

@@ -1,6 +1,7 @@
 // The list asked for its number of rows, its n-th row, and the row of a slot.
 ghost use mathlib.Core.Path.{_≡_};
-ghost use Rattle.list.specs.Rows.{foundCount, countAnswer, rowAtAnswer, rowOfSlotAnswer};
+ghost use Rattle.list.specs.Row.{rowSays};
+ghost use Rattle.list.specs.Rows.{foundCount, countSays, countAnswer, rowAtAnswer, rowOfSlotAnswer};
 use crate::issues::issues_refusal;
 use crate::row::RowAnswer;
 use crate::row::slot_row;
@@ -14,7 +15,7 @@ pub enum Count {
 
 // 1 where the answer is a row, else 0.
 fn one_if_found(a: RowAnswer) -> u16
-    ensures { λ r. ⌜ r ≡ foundCount a ⌝ }
+    ensures { λ r. ⌜ r ≡ foundCount (rowSays a) ⌝ }
 {
     let RowAnswer::Found(_) = a else {
         return 0;
@@ -24,7 +25,7 @@ fn one_if_found(a: RowAnswer) -> u16
 
 // How many slots qualify. Refusals 1, 17.
 pub fn row_count(ledger: &[u8], issues: &[u16]) -> Count
-    ensures { λ r. ⌜ r ≡ countAnswer (now (ledger .entry)) (now (issues .entry)) ⌝ }
+    ensures { λ r. ⌜ countSays r ≡ countAnswer (now (ledger .entry)) (now (issues .entry)) ⌝ }
 {
     let why = issues_refusal(issues);
     if why != 0 {
@@ -42,7 +43,7 @@ pub fn row_count(ledger: &[u8], issues: &[u16]) -> Count
 
 // The n-th row, from 1, in rising slot order. Refusals 1, 17, 18.
 pub fn row_at(ledger: &[u8], issues: &[u16], n: u16) -> RowAnswer
-    ensures { λ r. ⌜ r ≡ rowAtAnswer (now (ledger .entry)) (now (issues .entry)) n ⌝ }
+    ensures { λ r. ⌜ rowSays r ≡ rowAtAnswer (now (ledger .entry)) (now (issues .entry)) n ⌝ }
 {
     let why = issues_refusal(issues);
     if why != 0 {
@@ -70,7 +71,7 @@ pub fn row_at(ledger: &[u8], issues: &[u16], n: u16) -> RowAnswer
 
 // The row of a slot. Refusals 1, 11, 17, 18.
 pub fn row_of_slot(ledger: &[u8], issues: &[u16], slot: u16) -> RowAnswer
-    ensures { λ r. ⌜ r ≡ rowOfSlotAnswer (now (ledger .entry)) (now (issues .entry)) slot ⌝ }
+    ensures { λ r. ⌜ rowSays r ≡ rowOfSlotAnswer (now (ledger .entry)) (now (issues .entry)) slot ⌝ }
 {
     if issues.len() != 255 {
         return RowAnswer::Refused(1);

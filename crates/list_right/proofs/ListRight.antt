@@ -7,14 +7,14 @@ use mathlib.Core.Option.{none, some}
 use native.Mathlib.Omega.{arith}
 use lib.ListN.{length}
 use Rattle.bits.specs.Pick.{pick}
-use Rattle.lookback.specs.Walk.{rows, countFrom, nthOf}
+use Rattle.lookback.specs.Walk.{countFrom, nthOf}
 use Rattle.lookback.proofs.WalkLaws.{rows-same, rows-found, found-rows, rows-rise, count-length}
 use Rattle.held_mask.specs.Size.{size}
 use Rattle.in_force.specs.Bytes.{fresh, runBytes, Holds}
 use Rattle.in_force.proofs.BackLaws.{holds-run}
 use Rattle.list.specs.Issues.{issuesRefusal}
 use Rattle.list.specs.Row.{rowOf, answerOf}
-use Rattle.list.specs.Rows.{rowIn, listIn, countAnswer, rowAtAnswer, rowOfSlotAnswer}
+use Rattle.list.specs.Rows.{rowIn, listIn, countSays, countAnswer, rowAtAnswer, rowOfSlotAnswer}
 use Rattle.list.specs.declared.row.Row.{Row}
 use Rattle.list.specs.declared.rows.Count.the-variants as count
 use Rattle.list.proofs.AnswerLaws.{count-right, at-right, slot-right, issues-long}
@@ -31,8 +31,8 @@ module _ (s : List ℕ) (prn : ℕ) (h : List (List ℕ)) (is : List ℕ) (H : H
   unfolding listInForce
   list-held = rows-same (rowIn s is) (rowInForce prn h is) row-held
 
-  pub count-held : issuesRefusal is ≡ 0 → countAnswer s is ≡ count.Rows (length (listInForce prn h is))
-  count-held e = count-right s is e ∙ ap (λ (l : List Row). count.Rows (length l)) list-held
+  pub count-held : issuesRefusal is ≡ 0 → countAnswer s is ≡ countSays (count.Rows (length (listInForce prn h is)))
+  count-held e = count-right s is e ∙ ap (λ (l : List Row). countSays (count.Rows (length l))) list-held
 
   pub at-held : (n : ℕ) → issuesRefusal is ≡ 0 → rowAtAnswer s is n ≡ answerOf 0 (nthOf (listInForce prn h is) n)
   at-held n e = at-right s is n e ∙ ap (λ (l : List Row). answerOf 0 (nthOf l n)) list-held

@@ -2,7 +2,7 @@
 use mathlib.Core.Path.{_≡_, refl, sym, ap, _∙_}
 use mathlib.Core.Logic.{_≢_}
 use mathlib.Core.Bool.{Bool, true, false, true≢false, _||_}
-use mathlib.Core.List.{List}
+use mathlib.Core.List.{List, [], _∷_}
 use Prim.Native.Nat.{ℕ, _≤_, _<_}
 use native.Mathlib.Omega.{arith}
 use borrow.Author.Tests.{eq-eqb, ne-eqb, le-ltb}
@@ -12,11 +12,10 @@ use lib.Seq.{length-take-le}
 use Rattle.bits.specs.Pick.{pick}
 use Rattle.bits.specs.Bits.{bitAt, fieldAt}
 use Rattle.parity.specs.Parity.{parityOk}
-use Rattle.verdict.specs.declared.Verdict.the-variants.{Refused}
-use Rattle.frame.specs.Frame.{contentsOf, foreignTo, shellRefusal, refusalWith, verdictFor}
+use Rattle.frame.specs.Frame.{contentsOf, foreignTo, shellRefusal, refusalWith, frameSays}
 use Rattle.frame.proofs.FrameLaws.{leading}
 use Rattle.judge.specs.Judge.{refusalOf}
-use Rattle.in_force.specs.Bytes.{prnAt, takeRefusal, takeVerdict, takeBytes}
+use Rattle.in_force.specs.Bytes.{prnAt, takeRefusal, takeSays, takeBytes}
 use Rattle.in_force.proofs.RefusalLaws.{refused-same, frame-refusal, way-shut}
 use Rattle.pieces.specs.Pieces.{isFrame, standsAt, pieceLength}
 use Rattle.pieces.proofs.PieceLaws.{at-start, piece-rest, piece-within}
@@ -28,12 +27,12 @@ module _ (t f : List ℕ) (short : length f ≢ 125) where
   unfolding shellRefusal
   shell-1 = rw (ne-eqb (length f) 125 short)
 
-  one-alone : verdictFor f 1 ≡ Refused 1
-  unfolding verdictFor
+  one-alone : frameSays f 1 ≡ 1 ∷ []
+  unfolding frameSays
   one-alone = refl
 
-  pub short-refused : (Refused 1 ≡ takeVerdict t f) × (t ≡ takeBytes t f)
-  short-refused = way-shut t f (Refused 1) (sym one-alone ∙ ap (verdictFor f) (sym shell-1)) (omega arith)
+  pub short-refused : (1 ∷ [] ≡ takeSays t f) × (t ≡ takeBytes t f)
+  short-refused = way-shut t f (1 ∷ []) (sym one-alone ∙ ap (frameSays f) (sym shell-1)) (omega arith)
 
 -- ---- an answer other than 3 to 6 to 125 bytes says that they are a frame
 module _ (t f : List ℕ) (long : length f ≡ 125) where
@@ -80,7 +79,7 @@ module _ (t f : List ℕ) (long : length f ≡ 125) where
 -- ---- a step
 module _ (t s : List ℕ) where
   -- fewer than 125 bytes are one piece, refused 1
-  pub step-rest : length s < 125 → (length s ≡ pieceLength s) × (Refused 1 ≡ takeVerdict t (pieceOf s)) × (t ≡ takeBytes t (pieceOf s))
+  pub step-rest : length s < 125 → (length s ≡ pieceLength s) × (1 ∷ [] ≡ takeSays t (pieceOf s)) × (t ≡ takeBytes t (pieceOf s))
   step-rest h =
       let e = piece-rest s h in
       let r = short-refused t (pieceOf s) (λ z. omega (arith, length-take (pieceLength s) s)) in
@@ -103,7 +102,7 @@ module _ (t s : List ℕ) where
         go false q = refl
 
     -- a shorter piece is refused 1, and the 125 bytes were refused
-    pub step-short : pieceLength s ≢ 125 → (Refused 1 ≡ takeVerdict t (pieceOf s)) × (takeBytes t (take 125 s) ≡ takeBytes t (pieceOf s))
+    pub step-short : pieceLength s ≢ 125 → (1 ∷ [] ≡ takeSays t (pieceOf s)) × (takeBytes t (take 125 s) ≡ takeBytes t (pieceOf s))
     step-short n =
         let r = short-refused t (pieceOf s) (λ z. n (omega (arith, length-take-le (pieceLength s) s (piece-within s)))) in
         (r .0, refused-same t (take 125 s) (λ z. n (at-front (rw z))) ∙ r .1)

@@ -6,7 +6,8 @@ ghost use lib.Dec.{ltb};
 ghost use lib.ListN.{length, take};
 ghost use Rattle.bits.specs.Pick.{pick};
 ghost use Rattle.pieces.specs.Pieces.{pieceLength};
-ghost use Rattle.in_force.specs.Bytes.{takeVerdict, takeBytes};
+ghost use Rattle.verdict.specs.Verdict.{says};
+ghost use Rattle.in_force.specs.Bytes.{takeSays, takeBytes};
 ghost use Rattle.log.specs.Next.{pieceOf};
 use ledger::take::take_in;
 use pieces::piece_length;
@@ -24,7 +25,7 @@ pub struct Step {
 // The next 125 bytes are taken as a frame, or refused.
 fn take_whole(t: &mut [u8], s: &[u8]) -> Verdict
     requires { ⌜ 125 ≤ length (now s) ⌝ }
-    ensures verdict { λ r. ⌜ r ≡ takeVerdict (now (t .entry)) (take 125 (now (s .entry))) ⌝ }
+    ensures verdict { λ r. ⌜ says r ≡ takeSays (now (t .entry)) (take 125 (now (s .entry))) ⌝ }
     ensures bytes { λ r. ⌜ now (t .exit) ≡ takeBytes (now (t .entry)) (take 125 (now (s .entry))) ⌝ }
 {
     let e: usize = 125;
@@ -44,7 +45,7 @@ fn length_after(s: &[u8], n: u8) -> u8
 // The next piece of the bytes that are left is taken into a ledger as a frame, or refused. A frame's parity is looked at once.
 pub fn take_next(t: &mut [u8], s: &[u8]) -> Step
     ensures length { λ r. ⌜ r .length ≡ pieceLength (now (s .entry)) ⌝ }
-    ensures verdict { λ r. ⌜ r .verdict ≡ takeVerdict (now (t .entry)) (pieceOf (now (s .entry))) ⌝ }
+    ensures verdict { λ r. ⌜ says (r .verdict) ≡ takeSays (now (t .entry)) (pieceOf (now (s .entry))) ⌝ }
     ensures bytes { λ r. ⌜ now (t .exit) ≡ takeBytes (now (t .entry)) (pieceOf (now (s .entry))) ⌝ }
 {
     if s.len() < 125 {

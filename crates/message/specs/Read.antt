@@ -11,19 +11,28 @@ use Rattle.check24.specs.Check.{checkOk}
 use Rattle.contents.specs.Parts.{contentsAt, noContents}
 use Rattle.judge.specs.Judge.{refusalOf}
 use Rattle.contents.specs.declared.parts.Contents.{Contents}
-use Rattle.verdict.specs.Verdict.{verdictOf}
+use Rattle.verdict.specs.Verdict.{says, refusedBy}
 use Rattle.message.specs.declared.Reading.{Reading}
 
+-- an answer: the number and the values of its verdict, and the contents beside it
+pub record Answer : Type 0 where
+  pub said : List ℕ
+  pub contents : Contents
+
+-- 01, Refusal numbers: the answer that a reading is
+abbrev pub readingSays : Reading → Answer
+readingSays r = record { said = says (r .verdict); contents = r .contents }
+
 -- 01: refused with n and nothing else; taken with its contents where n is 0
-unfoldable pub answer : ℕ → Contents → Reading
-answer n c = record { verdict = verdictOf n; contents = pick (eqb n 0) c noContents }
+unfoldable pub answer : ℕ → Contents → Answer
+answer n c = record { said = refusedBy n; contents = pick (eqb n 0) c noContents }
 
 -- the message that begins at bit `at`, its check left aside
-abbrev pub readAt : List ℕ → ℕ → Reading
+abbrev pub readAt : List ℕ → ℕ → Answer
 readAt s at = answer (refusalOf (contentsAt s at)) (contentsAt s at)
 
 -- 01: a message of 61 bytes: 1, 2, 7, then 8 to 13
-unfoldable pub readMessage : List ℕ → Reading
+unfoldable pub readMessage : List ℕ → Answer
 readMessage s =
     answer
     (first

@@ -1,6 +1,6 @@
 // Messages: the answer of reading one that begins at any bit, and one of 61 bytes.
 ghost use mathlib.Core.Path.{_≡_};
-ghost use Rattle.message.specs.Read.{answer, readAt, readMessage};
+ghost use Rattle.message.specs.Read.{readingSays, answer, readAt, readMessage};
 use contents::parts::Contents;
 use contents::parts::no_contents;
 use contents::read::contents_at;
@@ -15,7 +15,7 @@ pub struct Reading {
 
 // Taken with its contents, or refused with n and nothing else.
 pub fn answer_of(n: u8, c: Contents) -> Reading
-    ensures { λ r. ⌜ r ≡ answer n c ⌝ }
+    ensures { λ r. ⌜ readingSays r ≡ answer n c ⌝ }
 {
     if n == 0 {
         Reading {
@@ -33,7 +33,7 @@ pub fn answer_of(n: u8, c: Contents) -> Reading
 
 // The message that begins at bit at, its check left aside.
 pub fn read_at(s: &[u8], at: u8) -> Reading
-    ensures { λ r. ⌜ r ≡ readAt (now (s .entry)) at ⌝ }
+    ensures { λ r. ⌜ readingSays r ≡ readAt (now (s .entry)) at ⌝ }
 {
     let c = contents_at(s, at);
     answer_of(refusal_of(c), c)
@@ -41,7 +41,7 @@ pub fn read_at(s: &[u8], at: u8) -> Reading
 
 // A message of 61 bytes.
 pub fn read(s: &[u8]) -> Reading
-    ensures { λ r. ⌜ r ≡ readMessage (now (s .entry)) ⌝ }
+    ensures { λ r. ⌜ readingSays r ≡ readMessage (now (s .entry)) ⌝ }
 {
     if s.len() != 61 {
         return answer_of(1, no_contents());

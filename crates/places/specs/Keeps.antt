@@ -13,10 +13,8 @@ use Rattle.records.specs.declared.clock.Clock.{Clock}
 use Rattle.contents.specs.declared.parts.ClockPart.{ClockPart}
 use Rattle.contents.specs.declared.parts.OrbitPart.{OrbitPart}
 use Rattle.contents.specs.declared.parts.Contents.{Contents}
-use Rattle.verdict.specs.Verdict.{verdictOf}
-use Rattle.verdict.specs.declared.Verdict.{Verdict}
-use Rattle.verdict.specs.declared.Verdict.the-variants.{Places}
-use Rattle.frame.specs.Frame.{contentsOf, foreignTo, refusalWith, verdictFor}
+use Rattle.verdict.specs.Verdict.{refusedBy}
+use Rattle.frame.specs.Frame.{contentsOf, foreignTo, refusalWith, frameSays}
 use Rattle.lookback.specs.Store.{Named}
 use Rattle.held_clocks.specs.declared.HeldClock.{HeldClock}
 use Rattle.held_orbits.specs.declared.HeldOrbit.{HeldOrbit}
@@ -99,9 +97,9 @@ placeRefusal m kind p =
     ∷ (placeNumber kind, needsMask kind p && ltb (setCount (m .bits)) (placeToCheck kind p))
     ∷ [])
 
--- 02, CR 1: the verdict of that number; 19 also gives the number of set bits
-unfoldable pub placeVerdict : HeldMask → ℕ → Verdict
-placeVerdict m n = pick (eqb n 19) (Places (setCount (m .bits))) (verdictOf n)
+-- 02, CR 1: what is said of that number; 19 also gives the number of set bits
+unfoldable pub placeSays : HeldMask → ℕ → List ℕ
+placeSays m n = pick (eqb n 19) (19 ∷ setCount (m .bits) ∷ []) (refusedBy n)
 
 -- 14, 15 and 19 of contents
 abbrev pub maskRefusal : HeldMask → Contents → ℕ
@@ -115,6 +113,6 @@ refusalUnder prn m f =
     ∷ (maskRefusal m (contentsOf f), not (eqb (maskRefusal m (contentsOf f)) 0))
     ∷ [])
 
--- 02, CR 1: the verdict of the number n given to f under the mask m; 6 and 19 give more than their number
-unfoldable pub verdictUnder : HeldMask → List ℕ → ℕ → Verdict
-verdictUnder m f n = pick (eqb n 6) (verdictFor f n) (placeVerdict m n)
+-- 02, CR 1: what is said of the number n given to f under the mask m; 6 and 19 give more than their number
+unfoldable pub saysUnder : HeldMask → List ℕ → ℕ → List ℕ
+saysUnder m f n = pick (eqb n 6) (frameSays f n) (placeSays m n)

@@ -1,7 +1,8 @@
 // What one frame does under the mask in force: whether clocks by place are refused (14, 15, 19), and how records are kept.
 ghost use mathlib.Core.Path.{_≡_};
+ghost use Rattle.verdict.specs.Verdict.{says};
 ghost use Rattle.held_mask.specs.Mask.{maskAt};
-ghost use Rattle.places.specs.Keeps.{heldOrbit, heldClock, needsMask, firstPlace, placeToCheck, placeNumber, placeRefusal, placeVerdict};
+ghost use Rattle.places.specs.Keeps.{heldOrbit, heldClock, needsMask, firstPlace, placeToCheck, placeNumber, placeRefusal, placeSays};
 use contents::parts::ClockPart;
 use held_clocks::HeldClock;
 use held_orbits::HeldOrbit;
@@ -70,7 +71,7 @@ fn place_refusal(t: &[u8], kind: u8, p: ClockPart) -> u8
 
 // The verdict on clocks by place under the mask held; 19 gives the number of places too.
 pub fn place_verdict(t: &[u8], kind: u8, p: ClockPart) -> Verdict
-    ensures { λ r. ⌜ r ≡ placeVerdict (maskAt (now (t .entry))) (placeRefusal (maskAt (now (t .entry))) kind p) ⌝ }
+    ensures { λ r. ⌜ says r ≡ placeSays (maskAt (now (t .entry))) (placeRefusal (maskAt (now (t .entry))) kind p) ⌝ }
 {
     let n = place_refusal(t, kind, p);
     if n == 19 {

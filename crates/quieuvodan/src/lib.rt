@@ -3,12 +3,14 @@ ghost use mathlib.Core.Path.{_≡_};
 ghost use Prim.Native.Nat.{_+_, _*_, _/_, _<_};
 ghost use lib.ListN.{length};
 ghost use Rattle.bits.specs.Bytes.{storeAt};
-ghost use Rattle.verdict.specs.Verdict.{numberOf};
+ghost use Rattle.verdict.specs.Verdict.{says, numberIn};
+ghost use Rattle.message.specs.Read.{readingSays};
 ghost use Rattle.pieces.specs.Pieces.{pieceLength};
-ghost use Rattle.in_force.specs.Bytes.{takeVerdict, takeBytes, frameAt, runBytes, framesOf};
+ghost use Rattle.in_force.specs.Bytes.{takeSays, takeBytes, frameAt, runBytes, framesOf};
+ghost use Rattle.list.specs.Row.{rowSays};
 ghost use Rattle.list.specs.Rows.{foundCount, listIn};
 ghost use Rattle.boundary.specs.Size.{contentsSize, rowSize};
-ghost use Rattle.boundary.specs.Detail.{detailOf};
+ghost use Rattle.boundary.specs.Detail.{detailIn};
 ghost use Rattle.boundary.specs.D1.{d1ReadAnswer, d1ReadRoom, d1WriteAnswer, d1WriteRoom};
 ghost use Rattle.boundary.specs.Boundary.{openAnswer, openRoom, takeAnswer, takeRoom, verdictsOf, replayRefusal, replayAnswer, replayLedger, replayVerdicts, answerBytes, rowsBytes, rowsAnswer, rowsRoom, rowAnswer, rowRoom, readingRoom, readAnswer, readRoom, frameAnswer, frameRoom, writeAnswer, writeRoom};
 use d1_subframes::read_subframe;
@@ -46,7 +48,7 @@ const ROWS_SIZE: usize = 174 * ROW_SIZE;
 
 // What a verdict says in one number: its refusal number, then the first failing group and how many fail, or the number of places.
 fn detail(v: Verdict) -> u32
-    ensures { λ r. ⌜ r ≡ detailOf v ⌝ }
+    ensures { λ r. ⌜ r ≡ detailIn (says v) ⌝ }
 {
     match v {
         Verdict::Taken => 0,
@@ -75,7 +77,7 @@ pub extern "C" fn qvd_open(ledger: &mut [u8], prn: u8) -> u8
 // A frame is taken into a ledger. 1, 3 to 15, 19, 39.
 #[no_mangle]
 pub extern "C" fn qvd_take(ledger: &mut [u8], frame: &[u8]) -> u8
-    ensures answer { λ r. ⌜ r ≡ takeAnswer numberOf (now (ledger .entry)) (now (frame .entry)) ⌝ }
+    ensures answer { λ r. ⌜ r ≡ takeAnswer numberIn (now (ledger .entry)) (now (frame .entry)) ⌝ }
     ensures bytes { λ r. ⌜ now (ledger .exit) ≡ takeRoom (now (ledger .entry)) (now (frame .entry)) ⌝ }
 {
     if ledger.len() != LEDGER_SIZE {
@@ -87,7 +89,7 @@ pub extern "C" fn qvd_take(ledger: &mut [u8], frame: &[u8]) -> u8
 // A frame is taken into a ledger, and the answer also says what the numbers 6 and 19 carry. 1, 3 to 15, 19, 39.
 #[no_mangle]
 pub extern "C" fn qvd_take_detail(ledger: &mut [u8], frame: &[u8]) -> u32
-    ensures answer { λ r. ⌜ r ≡ takeAnswer detailOf (now (ledger .entry)) (now (frame .entry)) ⌝ }
+    ensures answer { λ r. ⌜ r ≡ takeAnswer detailIn (now (ledger .entry)) (now (frame .entry)) ⌝ }
     ensures bytes { λ r. ⌜ now (ledger .exit) ≡ takeRoom (now (ledger .entry)) (now (frame .entry)) ⌝ }
 {
     if ledger.len() != LEDGER_SIZE {
@@ -99,7 +101,7 @@ pub extern "C" fn qvd_take_detail(ledger: &mut [u8], frame: &[u8]) -> u32
 // Frame i of a log, from 0, is taken; its verdict.
 fn take_nth(t: &mut [u8], log: &[u8], i: usize) -> Verdict
     requires { ⌜ i < (length (now log) + 124) / 125 ⌝ }
-    ensures answer { λ r. ⌜ r ≡ takeVerdict (now (t .entry)) (frameAt (now (log .entry)) i) ⌝ }
+    ensures answer { λ r. ⌜ says r ≡ takeSays (now (t .entry)) (frameAt (now (log .entry)) i) ⌝ }
     ensures bytes { λ r. ⌜ now (t .exit) ≡ takeBytes (now (t .entry)) (frameAt (now (log .entry)) i) ⌝ }
 {
     let a = 125 * i;
@@ -112,7 +114,7 @@ fn take_nth(t: &mut [u8], log: &[u8], i: usize) -> Verdict
 fn take_all(t: &mut [u8], log: &[u8], verdicts: &mut [u8])
     requires { ⌜ length (now verdicts) ≡ (length (now log) + 124) / 125 ⌝ }
     ensures bytes { λ r. ⌜ now (t .exit) ≡ runBytes (now (t .entry)) (framesOf (now (log .entry))) ⌝ }
-    ensures answers { λ r. ⌜ now (verdicts .exit) ≡ verdictsOf numberOf (now (t .entry)) (now (log .entry)) ⌝ }
+    ensures answers { λ r. ⌜ now (verdicts .exit) ≡ verdictsOf numberIn (now (t .entry)) (now (log .entry)) ⌝ }
 {
     let mut i: usize = 0;
     while i < verdicts.len() {
@@ -126,7 +128,7 @@ fn take_all(t: &mut [u8], log: &[u8], verdicts: &mut [u8])
 fn take_all_detail(t: &mut [u8], log: &[u8], details: &mut [u32])
     requires { ⌜ length (now details) ≡ (length (now log) + 124) / 125 ⌝ }
     ensures bytes { λ r. ⌜ now (t .exit) ≡ runBytes (now (t .entry)) (framesOf (now (log .entry))) ⌝ }
-    ensures answers { λ r. ⌜ now (details .exit) ≡ verdictsOf detailOf (now (t .entry)) (now (log .entry)) ⌝ }
+    ensures answers { λ r. ⌜ now (details .exit) ≡ verdictsOf detailIn (now (t .entry)) (now (log .entry)) ⌝ }
 {
     let mut i: usize = 0;
     while i < details.len() {
@@ -157,7 +159,7 @@ fn replay_refusal(ledger: usize, prn: u8, log: usize, verdicts: usize) -> u8
 pub extern "C" fn qvd_replay(ledger: &mut [u8], prn: u8, log: &[u8], verdicts: &mut [u8]) -> u8
     ensures answer { λ r. ⌜ r ≡ replayAnswer (now (ledger .entry)) prn (now (log .entry)) (now (verdicts .entry)) ⌝ }
     ensures bytes { λ r. ⌜ now (ledger .exit) ≡ replayLedger (now (ledger .entry)) prn (now (log .entry)) (now (verdicts .entry)) ⌝ }
-    ensures answers { λ r. ⌜ now (verdicts .exit) ≡ replayVerdicts numberOf (now (ledger .entry)) prn (now (log .entry)) (now (verdicts .entry)) ⌝ }
+    ensures answers { λ r. ⌜ now (verdicts .exit) ≡ replayVerdicts numberIn (now (ledger .entry)) prn (now (log .entry)) (now (verdicts .entry)) ⌝ }
 {
     let why = replay_refusal(ledger.len(), prn, log.len(), verdicts.len());
     if why != 0 {
@@ -178,7 +180,7 @@ pub extern "C" fn qvd_replay_detail(
 ) -> u8
     ensures answer { λ r. ⌜ r ≡ replayAnswer (now (ledger .entry)) prn (now (log .entry)) (now (details .entry)) ⌝ }
     ensures bytes { λ r. ⌜ now (ledger .exit) ≡ replayLedger (now (ledger .entry)) prn (now (log .entry)) (now (details .entry)) ⌝ }
-    ensures answers { λ r. ⌜ now (details .exit) ≡ replayVerdicts detailOf (now (ledger .entry)) prn (now (log .entry)) (now (details .entry)) ⌝ }
+    ensures answers { λ r. ⌜ now (details .exit) ≡ replayVerdicts detailIn (now (ledger .entry)) prn (now (log .entry)) (now (details .entry)) ⌝ }
 {
     let why = replay_refusal(ledger.len(), prn, log.len(), details.len());
     if why != 0 {
@@ -192,8 +194,8 @@ pub extern "C" fn qvd_replay_detail(
 // The answer's row, if it is one, is put as row n, from 0; says how many rows there are then.
 fn put_answer(rows: &mut [u8], n: usize, a: RowAnswer) -> usize
     requires { ⌜ n < 255 ⌝ }
-    ensures count { λ r. ⌜ r ≡ n + foundCount a ⌝ }
-    ensures bytes { λ r. ⌜ now (rows .exit) ≡ storeAt (now (rows .entry)) (rowSize * n) (answerBytes a) ⌝ }
+    ensures count { λ r. ⌜ r ≡ n + foundCount (rowSays a) ⌝ }
+    ensures bytes { λ r. ⌜ now (rows .exit) ≡ storeAt (now (rows .entry)) (rowSize * n) (answerBytes (rowSays a .1)) ⌝ }
 {
     let RowAnswer::Found(r) = a else {
         return n;
@@ -263,8 +265,8 @@ pub extern "C" fn qvd_row(ledger: &[u8], issues: &[u16], slot: u16, row: &mut [u
 // The contents that are read are put, where the reading is taken; its verdict.
 fn put_reading(room: &mut [u8], r: Reading) -> Verdict
     requires { ⌜ length (now room) ≡ contentsSize ⌝ }
-    ensures answer { λ v. ⌜ v ≡ r .verdict ⌝ }
-    ensures bytes { λ v. ⌜ now (room .exit) ≡ readingRoom r (now (room .entry)) ⌝ }
+    ensures answer { λ v. ⌜ says v ≡ readingSays r .said ⌝ }
+    ensures bytes { λ v. ⌜ now (room .exit) ≡ readingRoom (readingSays r) (now (room .entry)) ⌝ }
 {
     let v = r.verdict;
     if number_of(v) != 0 {
@@ -290,7 +292,7 @@ pub extern "C" fn qvd_read(message: &[u8], contents: &mut [u8]) -> u8
 // The contents of a frame, read without a ledger; on a refusal the room is as it was. 1, 3, 5 to 13, 39.
 #[no_mangle]
 pub extern "C" fn qvd_read_frame(frame: &[u8], contents: &mut [u8]) -> u8
-    ensures answer { λ r. ⌜ r ≡ frameAnswer numberOf (now (frame .entry)) (now (contents .entry)) ⌝ }
+    ensures answer { λ r. ⌜ r ≡ frameAnswer numberIn (now (frame .entry)) (now (contents .entry)) ⌝ }
     ensures bytes { λ r. ⌜ now (contents .exit) ≡ frameRoom (now (frame .entry)) (now (contents .entry)) ⌝ }
 {
     if contents.len() != CONTENTS_SIZE {
@@ -302,7 +304,7 @@ pub extern "C" fn qvd_read_frame(frame: &[u8], contents: &mut [u8]) -> u8
 // The contents of a frame as qvd_read_frame gives them, and the answer also says what the number 6 carries. 1, 3, 5 to 13, 39.
 #[no_mangle]
 pub extern "C" fn qvd_read_frame_detail(frame: &[u8], contents: &mut [u8]) -> u32
-    ensures answer { λ r. ⌜ r ≡ frameAnswer detailOf (now (frame .entry)) (now (contents .entry)) ⌝ }
+    ensures answer { λ r. ⌜ r ≡ frameAnswer detailIn (now (frame .entry)) (now (contents .entry)) ⌝ }
     ensures bytes { λ r. ⌜ now (contents .exit) ≡ frameRoom (now (frame .entry)) (now (contents .entry)) ⌝ }
 {
     if contents.len() != CONTENTS_SIZE {

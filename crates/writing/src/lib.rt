@@ -2,13 +2,13 @@
 ghost use mathlib.Core.Path.{_≡_};
 ghost use Prim.Native.Nat.{_+_, _^_, _<_, _≤_};
 ghost use lib.Dec.{ltb};
-ghost use lib.ListN.{length, replicate};
+ghost use lib.ListN.{length};
 ghost use lib.Signed.{mag};
 ghost use Rattle.bits.specs.Bits.{putsAt, putRows};
 ghost use Rattle.records.specs.Orbit.{orbitWidths};
 ghost use Rattle.records.specs.Clock.{clockWidths};
 ghost use Rattle.layout.specs.Layout.{partWidths};
-ghost use Rattle.verdict.specs.Verdict.{verdictOf};
+ghost use Rattle.verdict.specs.Verdict.{says, refusedBy};
 ghost use Rattle.writing.specs.Fits.{eight, rawOr, clockVals, orbitVals, headVals, clockRow, orbitRow, fits, allFit, fitsAll};
 ghost use Rattle.writing.specs.Write.{headPut, maskWidths, maskRow, maskPut, clocksPut, orbitsPut, partsPut, checkPut, messageOf, contentRefusal, writeRefusal, written};
 use contents::parts::ClockPart;
@@ -350,7 +350,7 @@ fn put_message(room: &mut [u8], c: Contents)
 
 // A message is written into a lent room: refusals 1, 8 to 13, 16, lowest first. On a refusal the room is as it was.
 pub fn write(room: &mut [u8], c: Contents) -> Verdict
-    ensures verdict { λ r. ⌜ r ≡ verdictOf (writeRefusal (now (room .entry)) c) ⌝ }
+    ensures verdict { λ r. ⌜ says r ≡ refusedBy (writeRefusal (now (room .entry)) c) ⌝ }
     ensures bytes { λ r. ⌜ now (room .exit) ≡ written (now (room .entry)) c ⌝ }
 {
     if room.len() != 61 {

@@ -13,7 +13,7 @@ use Rattle.bits.proofs.TableLaws.{length-table}
 use Rattle.check24.specs.Check.{checkOk}
 use Rattle.contents.specs.Parts.{noMask, maskBitAt, maskBitsAt, maskPartAt, maskIn, layoutAt, contentsAt}
 use Rattle.judge.specs.Judge.{refusalOf}
-use Rattle.verdict.specs.Verdict.{numberOf}
+use Rattle.verdict.specs.Verdict.{says, numberIn}
 use Rattle.message.specs.Read.{answer, readMessage}
 use Rattle.contents.specs.declared.parts.MaskPart.{MaskPart}
 use Rattle.contents.specs.declared.parts.Contents.{Contents}
@@ -85,16 +85,16 @@ read-mask-long s =
     (length-table (λ (i : ℕ). false) 255)
 
 -- an answer that takes has the number 0
-answer-taken : (n : ℕ) (c : Contents) → answer n c .verdict ≡ Taken → n ≡ 0
+answer-taken : (n : ℕ) (c : Contents) → answer n c .said ≡ says Taken → n ≡ 0
 unfolding answer
-answer-taken n c e = sym (number-back n) ∙ ap numberOf e
+answer-taken n c e = sym (number-back n) ∙ ap numberIn e
 
-pub reading-answer : (s : List ℕ) → readMessage s .verdict ≡ Taken → readMessage s ≡ answer 0 (contentsAt s 0)
+pub reading-answer : (s : List ℕ) → readMessage s .said ≡ says Taken → readMessage s ≡ answer 0 (contentsAt s 0)
 unfolding readMessage
 reading-answer s e = ap (λ (n : ℕ). answer n (contentsAt s 0)) (answer-taken _ (contentsAt s 0) e)
 
 -- so nothing applies to what was read
-pub reading-judged : (s : List ℕ) → readMessage s .verdict ≡ Taken → refusalOf (contentsAt s 0) ≡ 0
+pub reading-judged : (s : List ℕ) → readMessage s .said ≡ says Taken → refusalOf (contentsAt s 0) ≡ 0
 unfolding readMessage
 reading-judged s e =
     let n1 = first-not 1 _ (not (eqb (length s) 61)) (λ q. omega arith) (answer-taken _ (contentsAt s 0) e) in

@@ -8,7 +8,7 @@ use Rattle.bits.specs.Bits.{bitAt}
 use Rattle.contents.specs.Parts.{contentsAt}
 use Rattle.message.specs.Read.{answer, readMessage}
 use Rattle.contents.specs.declared.parts.Contents.{Contents}
-use Rattle.verdict.specs.Verdict.{verdictOf}
+use Rattle.verdict.specs.Verdict.{says, refusedBy}
 use Rattle.verdict.specs.declared.Verdict.the-variants.{Taken}
 use Rattle.canonical.specs.Canon.{canon}
 use Rattle.canonical.proofs.CanonLaws.{canon-read, layout-read}
@@ -39,7 +39,7 @@ round-trip room c bits e = message-taken (written room c) (canon c) (written-mes
 pub demand-2 : Demand2
 demand-2 room c long h =
     let e = limits-taken room c long h in
-    record { taken = ap verdictOf e; back = round-trip room c (h .bits) e }
+    record { taken = ap refusedBy e; back = round-trip room c (h .bits) e }
 
 -- two contents of different canonical form give different messages
 pub messages-differ : (room room′ : List ℕ) (c d : Contents) → length (canon c .mask .bits) ≡ 255 → length (canon d .mask .bits) ≡ 255 → writeRefusal room c ≡ 0 → writeRefusal room′ d ≡ 0 → canon c ≢ canon d → written room c ≢ written room′ d
@@ -48,14 +48,14 @@ messages-differ room room′ c d p q e f n w =
 
 -- ---- the other way
 -- what was read from an accepted message is within its limits, and writing it is taken
-pub reading-written : (s room : List ℕ) → length room ≡ 61 → readMessage s .verdict ≡ Taken → writeRefusal room (contentsAt s 0) ≡ 0
+pub reading-written : (s room : List ℕ) → length room ≡ 61 → readMessage s .said ≡ says Taken → writeRefusal room (contentsAt s 0) ≡ 0
 reading-written s room long e =
     refuses-content room (contentsAt s 0) long
     ∙ ap contentRefusal (canon-read s 0)
     ∙ content-ok (contentsAt s 0) (reading-judged s e) (read-fits s 0)
 
 -- reading what was written gives again what was read
-pub read-again : (s room : List ℕ) → length room ≡ 61 → readMessage s .verdict ≡ Taken → readMessage (written room (contentsAt s 0)) ≡ readMessage s
+pub read-again : (s room : List ℕ) → length room ≡ 61 → readMessage s .said ≡ says Taken → readMessage (written room (contentsAt s 0)) ≡ readMessage s
 unfolding answer
 read-again s room long e =
     round-trip room (contentsAt s 0) (mask-long (contentsAt s 0) (read-mask-long s)) (reading-written s room long e)
@@ -63,7 +63,7 @@ read-again s room long e =
     ∙ sym (reading-answer s e)
 
 -- and each of its first 462 bits is that of the message read, or 0: reserved bits and blank records are zeroed
-pub rewritten : (s room : List ℕ) → length room ≡ 61 → readMessage s .verdict ≡ Taken → (j : ℕ) → j < 462 → (bitAt (written room (contentsAt s 0)) j ≡ bitAt s j) ⊎ (bitAt (written room (contentsAt s 0)) j ≡ 0)
+pub rewritten : (s room : List ℕ) → length room ≡ 61 → readMessage s .said ≡ says Taken → (j : ℕ) → j < 462 → (bitAt (written room (contentsAt s 0)) j ≡ bitAt s j) ⊎ (bitAt (written room (contentsAt s 0)) j ≡ 0)
 rewritten s room long e j h =
     let c = contentsAt s 0 in
     rw (written-taken room c (reading-written s room long e), canon-read s 0)

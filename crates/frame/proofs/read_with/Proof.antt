@@ -1,6 +1,5 @@
 use borrow.Author.Needs.{needs}
-use mathlib.Core.Path.{sym, ap, _∙_}
-use Rattle.verdict.specs.Verdict.{numberOf}
+use mathlib.Core.Path.{sym, _∙_}
 use Rattle.frame.proofs.VerdictLaws.{way-shut, way-open}
 use Rattle.frame.proofs.read_with.Statement.{statement}
 use Rattle.frame.proofs.read_with.Tie as tie

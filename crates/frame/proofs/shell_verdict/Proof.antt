@@ -4,23 +4,23 @@ use mathlib.Core.Path.{sym, ap, _∙_}
 use lib.Dec.{eqb}
 use Rattle.parity.specs.declared.Groups.{Groups}
 use Rattle.parity.proofs.GroupLaws.{parity-none}
-use Rattle.frame.specs.Frame.{shellRefusal, verdictFor}
+use Rattle.frame.specs.Frame.{shellRefusal, frameSays}
 use Rattle.frame.proofs.shell_verdict.Statement.{statement}
 use Rattle.frame.proofs.shell_verdict.Tie as tie
 
 returns : tie.Need-returns
-unfolding shellRefusal verdictFor
+unfolding shellRefusal frameSays
 returns c = rw (ne-eqb _ _ (c .if1 .taken))
 
 get16-requires : tie.Need-get16-requires
 get16-requires c κs = search needs
 
 returns-2 : tie.Need-returns-2
-unfolding shellRefusal verdictFor
+unfolding shellRefusal frameSays
 returns-2 c = rw (eq-eqb _ _ (c .before .before .if1 .left), ← (c .before .get16 .ensures), ne-eqb _ _ (c .if2 .taken))
 
 returns-3 : tie.Need-returns-3
-unfolding shellRefusal verdictFor
+unfolding shellRefusal frameSays
 returns-3 c =
     let c2 = c .before in
     rw (eq-eqb _ _ (c2 .before .before .if1 .left), ← (c2 .before .get16 .ensures), eq-eqb _ _ (c2 .if2 .left), c .if3 .taken)
@@ -29,7 +29,7 @@ bit-requires : tie.Need-bit-requires
 bit-requires c κs = search needs
 
 returns-4 : tie.Need-returns-4
-unfolding shellRefusal verdictFor
+unfolding shellRefusal frameSays
 returns-4 c =
     let c3 = c .before .before in
     let c2 = c3 .before in
@@ -46,7 +46,7 @@ failed-groups-requires : tie.Need-failed-groups-requires
 failed-groups-requires c κs = search needs
 
 returns-5 : tie.Need-returns-5
-unfolding shellRefusal verdictFor
+unfolding shellRefusal frameSays
 returns-5 c =
     let groups = c .before .before .failed-groups .ensures in
     let c4 = c .before .before .before in
@@ -68,7 +68,7 @@ check-ok-requires : tie.Need-check-ok-requires
 check-ok-requires c κs = search needs
 
 returns-6 : tie.Need-returns-6
-unfolding shellRefusal verdictFor
+unfolding shellRefusal frameSays
 returns-6 c =
     let c5 = c .before .before in
     let groups = c5 .before .before .failed-groups .ensures in
@@ -88,7 +88,7 @@ returns-6 c =
     )
 
 returns-7 : tie.Need-returns-7
-unfolding shellRefusal verdictFor
+unfolding shellRefusal frameSays
 returns-7 c =
     let c5 = c .before .before in
     let groups = c5 .before .before .failed-groups .ensures in

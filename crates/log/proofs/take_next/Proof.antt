@@ -3,10 +3,10 @@ use native.Mathlib.Omega.{arith}
 use Prim.Native.Nat.{_≤_}
 use mathlib.Core.Path.{sym, ap, _∙_}
 use lib.ListN.{length, take}
-use Rattle.in_force.specs.Bytes.{takeRefusal, takeVerdict, takeBytes}
+use Rattle.in_force.specs.Bytes.{takeRefusal, takeSays, takeBytes}
 use Rattle.in_force.proofs.RefusalLaws.{under-number}
 use Rattle.held_mask.specs.Mask.{maskAt}
-use Rattle.verdict.specs.Verdict.{numberOf}
+use Rattle.verdict.specs.Verdict.{numberIn}
 use Rattle.log.proofs.NextLaws.{step-rest, length-right, step-short, step-whole}
 use Rattle.log.proofs.take_next.Statement.{statement}
 use Rattle.log.proofs.take_next.Tie as tie
@@ -39,7 +39,7 @@ returns-2 c =
     let s = start .args .s .now in
     let v = c .before .before .before .before .before .take-whole in
     let h : 125 ≤ length s = omega (arith, c .before .before .before .before .before .before .before .if1 .left) in
-    let number = c .before .before .number-of .ensures ∙ ap numberOf (v .ensures .0) ∙ under-number (maskAt t) (take 125 s) (takeRefusal t (take 125 s)) in
+    let number = c .before .before .number-of .ensures ∙ ap numberIn (v .ensures .0) ∙ under-number (maskAt t) (take 125 s) (takeRefusal t (take 125 s)) in
     let n = c .before .length-after .ensures ∙ length-right t s h (c .before .before .number-of .result) number in
     let short = step-short t s h (λ z. c .if2 .taken (n ∙ z)) in
     (n, (short .0, v .ensures .1 ∙ short .1))
@@ -54,10 +54,10 @@ returns-3 c =
     let s = start .args .s .now in
     let v = c .before .before .before .before .before .take-whole in
     let h : 125 ≤ length s = omega (arith, c .before .before .before .before .before .before .before .if1 .left) in
-    let number = c .before .before .number-of .ensures ∙ ap numberOf (v .ensures .0) ∙ under-number (maskAt t) (take 125 s) (takeRefusal t (take 125 s)) in
+    let number = c .before .before .number-of .ensures ∙ ap numberIn (v .ensures .0) ∙ under-number (maskAt t) (take 125 s) (takeRefusal t (take 125 s)) in
     let n = c .before .length-after .ensures ∙ length-right t s h (c .before .before .number-of .result) number in
     let whole = step-whole t s h (sym n ∙ c .if2 .left) in
-    (n, (v .ensures .0 ∙ ap (takeVerdict t) whole, v .ensures .1 ∙ ap (takeBytes t) whole))
+    (n, (v .ensures .0 ∙ ap (takeSays t) whole, v .ensures .1 ∙ ap (takeBytes t) whole))
 
 pub take-next-spec : {M : Type 1} → statement M
 take-next-spec =

@@ -1,4 +1,5 @@
 use borrow.Author.Needs.{needs}
+use native.Mathlib.Omega.{arith}
 use Rattle.quieuvodan.proofs.detail.Statement.{statement}
 use Rattle.quieuvodan.proofs.detail.Tie as tie
 
@@ -45,16 +46,16 @@ add-result-3 : tie.Need-add-result-3
 add-result-3 c = search needs
 
 returns : tie.Need-returns
-returns c = search needs
+returns c = rw (c .enum-told .given .1)
 
 returns-2 : tie.Need-returns-2
-returns-2 c = search needs
+returns-2 c = rw (c .before .v .given .1) (omega arith)
 
 returns-3 : tie.Need-returns-3
 returns-3 c = rw (c .before .v2 .given .1)
 
 returns-4 : tie.Need-returns-4
-returns-4 c = rw (c .before .v3 .given .1)
+returns-4 c = rw (c .before .v3 .given .1) (omega arith)
 
 pub detail-spec : {M : Type 1} → statement M
 detail-spec =

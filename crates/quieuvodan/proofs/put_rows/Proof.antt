@@ -6,13 +6,13 @@ use mathlib.Core.Path.{_≡_, sym, ap, _∙_, refl}
 use lib.ListN.{length}
 use Rattle.bits.specs.Bytes.{storeAt}
 use Rattle.lookback.specs.Walk.{rowsFrom}
-use Rattle.list.specs.Row.{answerOf}
+use Rattle.list.specs.Row.{rowSays, answerOf}
 use Rattle.list.specs.Rows.{rowIn, listIn}
 use Rattle.list.specs.declared.row.RowAnswer.the-variants.{Refused}
-use Rattle.list.proofs.AnswerLaws.{row-next}
+use Rattle.list.proofs.AnswerLaws.{found-le, row-next}
 use Rattle.boundary.specs.Size.{rowSize}
 use Rattle.boundary.specs.Boundary.{rowsBytes}
-use Rattle.boundary.proofs.BoundaryLaws.{found-le, rows-turn, rows-over}
+use Rattle.boundary.proofs.BoundaryLaws.{rows-turn, rows-over}
 use Rattle.quieuvodan.proofs.put_rows.Statement.{statement}
 use Rattle.quieuvodan.proofs.put_rows.Tie as tie
 
@@ -64,7 +64,7 @@ loop-again c =
       omega (arith, p .ensures .0, found-le (c .before .before .before .before .slot-row .result)),
       l .inv .2,
       p .kept .0 ∙ l .inv .3,
-      rows-turn (rowIn (a .ledger .now) (a .issues .now)) (l .i) (l .n) (p .result) (l .rows) _ (c .before .before .before .before .slot-row .result) (omega arith) e (p .ensures .0) (p .ensures .1) ∙ l .inv .4,
+      rows-turn (rowIn (a .ledger .now) (a .issues .now)) (l .i) (l .n) (p .result) (l .rows) _ _ (omega arith) e (p .ensures .0) (p .ensures .1) ∙ l .inv .4,
     )
 
 same-length : tie.Need-same-length Inv-loop μ-loop
@@ -74,7 +74,7 @@ returns : tie.Need-returns Inv-loop μ-loop
 returns c =
     let l = c .before .loop in
     let a = c .before .before .before .before .before .args in
-    sym (rows-over (rowIn (a .ledger .now) (a .issues .now)) (l .i) (l .n) 0 (l .rows) (l .rows) (Refused 0) (omega arith)) ∙ l .inv .4
+    sym (rows-over (rowIn (a .ledger .now) (a .issues .now)) (l .i) (l .n) 0 (l .rows) (l .rows) (rowSays (Refused 0)) (omega arith)) ∙ l .inv .4
 
 pub put-rows-spec : {M : Type 1} → statement M
 put-rows-spec =

@@ -1,6 +1,6 @@
 use borrow.Author.Needs.{needs}
 use mathlib.Core.Path.{ap, _∙_}
-use Rattle.verdict.specs.Verdict.{numberOf}
+use Rattle.verdict.specs.Verdict.{numberIn}
 use Rattle.verdict.proofs.NumberLaws.{number-back}
 use Rattle.quieuvodan.proofs.qvd_d1_read.Statement.{statement}
 use Rattle.quieuvodan.proofs.qvd_d1_read.Tie as tie
@@ -15,7 +15,7 @@ same-length : tie.Need-same-length
 same-length c = search needs
 
 returns : tie.Need-returns
-returns c = let r = c .before .before .before .read-subframe .ensures in (c .number-of .ensures ∙ ap numberOf (r .0) ∙ number-back _, r .1)
+returns c = let r = c .before .before .before .read-subframe .ensures in (c .number-of .ensures ∙ ap numberIn (r .0) ∙ number-back _, r .1)
 
 pub qvd-d1-read-spec : {M : Type 1} → statement M
 qvd-d1-read-spec = tie.close (tie.spec read-subframe-requires number-of-requires same-length returns)

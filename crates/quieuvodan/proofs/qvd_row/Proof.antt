@@ -1,5 +1,6 @@
 use borrow.Author.Needs.{needs}
-use mathlib.Core.Path.{sym, _∙_}
+use mathlib.Core.Path.{sym, ap, _∙_}
+use Rattle.list.specs.Row.{rowSays}
 use Rattle.boundary.proofs.BoundaryLaws.{row-ledger, row-size, row-found, row-none}
 use Rattle.quieuvodan.proofs.qvd_row.Statement.{statement}
 use Rattle.quieuvodan.proofs.qvd_row.Tie as tie
@@ -26,10 +27,10 @@ same-length : tie.Need-same-length
 same-length c = search needs
 
 returns-3 : tie.Need-returns-3
-returns-3 c = let a = c .before .before .before .before .before .before .before .before .before .before .before .before .before .args in row-found (a .ledger .now) (a .issues .now) (a .slot) (a .row .now) _ _ (c .before .before .before .before .before .before .before .before .before .if1 .left) (c .before .before .before .before .before .before .before .before .if2 .left) (sym (c .before .before .before .before .before .before .before .row-of-slot .ensures) ∙ c .before .before .before .before .before .a .given .1) (c .before .before .put-row .ensures)
+returns-3 c = let a = c .before .before .before .before .before .before .before .before .before .before .before .before .before .args in row-found (a .ledger .now) (a .issues .now) (a .slot) (a .row .now) _ _ (c .before .before .before .before .before .before .before .before .before .if1 .left) (c .before .before .before .before .before .before .before .before .if2 .left) (sym (c .before .before .before .before .before .before .before .row-of-slot .ensures) ∙ ap rowSays (c .before .before .before .before .before .a .given .1)) (c .before .before .put-row .ensures)
 
 returns-4 : tie.Need-returns-4
-returns-4 c = let a = c .before .before .before .before .before .before .before .before .before .args in row-none (a .ledger .now) (a .issues .now) (a .slot) (a .row .now) _ (c .before .before .before .before .before .if1 .left) (c .before .before .before .before .if2 .left) (sym (c .before .before .before .row-of-slot .ensures) ∙ c .before .a2 .given .1)
+returns-4 c = let a = c .before .before .before .before .before .before .before .before .before .args in row-none (a .ledger .now) (a .issues .now) (a .slot) (a .row .now) _ (c .before .before .before .before .before .if1 .left) (c .before .before .before .before .if2 .left) (sym (c .before .before .before .row-of-slot .ensures) ∙ ap rowSays (c .before .a2 .given .1))
 
 pub qvd-row-spec : {M : Type 1} → statement M
 qvd-row-spec =

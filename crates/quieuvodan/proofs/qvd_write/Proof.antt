@@ -1,6 +1,6 @@
 use borrow.Author.Needs.{needs}
 use mathlib.Core.Path.{ap, _∙_}
-use Rattle.verdict.specs.Verdict.{numberOf, verdictOf}
+use Rattle.verdict.specs.Verdict.{numberIn, refusedBy}
 use Rattle.contents.specs.declared.parts.Contents.{Contents}
 use Rattle.writing.specs.Write.{writeRefusal, written}
 use Rattle.boundary.proofs.BoundaryLaws.{write-size, write-right}
@@ -27,7 +27,7 @@ returns-2 c =
     let a = c .before .before .before .before .before .before .before .before .before .args in
     let k = c .before .before .before .before .contents-of .ensures in
     write-right (a .contents .now) (a .room .now) _ _ (c .before .before .before .before .before .before .if1 .left)
-    (c .number-of .ensures ∙ ap numberOf (c .before .before .before .write .ensures .0) ∙ ap (λ (x : Contents). numberOf (verdictOf (writeRefusal (a .room .now) x))) k)
+    (c .number-of .ensures ∙ ap numberIn (c .before .before .before .write .ensures .0) ∙ ap (λ (x : Contents). numberIn (refusedBy (writeRefusal (a .room .now) x))) k)
     (c .before .before .before .write .ensures .1 ∙ ap (written (a .room .now)) k)
 
 pub qvd-write-spec : {M : Type 1} → statement M

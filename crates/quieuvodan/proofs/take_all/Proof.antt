@@ -4,19 +4,19 @@ use native.Mathlib.Omega.{arith}
 use Prim.Native.Nat.{_-_}
 use mathlib.Core.Path.{ap, _∙_}
 use lib.ListN.{length, length-set}
-use Rattle.verdict.specs.Verdict.{numberOf}
+use Rattle.verdict.specs.Verdict.{numberIn}
 use Rattle.boundary.proofs.ReplayLaws.{Taking, taking-start, taking-turn, taking-end}
 use Rattle.quieuvodan.proofs.take_all.Statement.{statement}
 use Rattle.quieuvodan.proofs.take_all.Tie as tie
 
 abbrev Inv-loop : tie.InvT-loop
-Inv-loop t₀ log verdicts₀ i₀ t verdicts i = Taking numberOf t₀ log verdicts₀ t verdicts i
+Inv-loop t₀ log verdicts₀ i₀ t verdicts i = Taking numberIn t₀ log verdicts₀ t verdicts i
 
 abbrev μ-loop : tie.MeasureT-loop
 μ-loop t₀ log verdicts₀ i₀ t verdicts i = length verdicts - i
 
 loop-holds : tie.Need-loop-holds Inv-loop μ-loop
-loop-holds c = let a = c .before .before .before .args in taking-start numberOf (a .t .now) (a .log .now) (a .verdicts .now) (c .before .before .before .pre)
+loop-holds c = let a = c .before .before .before .args in taking-start numberIn (a .t .now) (a .log .now) (a .verdicts .now) (c .before .before .before .pre)
 
 take-nth-requires : tie.Need-take-nth-requires Inv-loop μ-loop
 take-nth-requires c κs = search needs
@@ -38,7 +38,7 @@ loop-again c =
     let l = c .before .before .before .before .before .before .loop in
     let a = c .before .before .before .before .before .before .before .before .before .before .args in
     let n = c .before .before .before .take-nth in
-    taking-turn numberOf (a .t .now) (a .log .now) (a .verdicts .now) (l .t) (l .verdicts) _ (l .i) (c .number-of .result) (l .inv) (omega arith) (n .kept .0) (n .ensures .1) (c .number-of .ensures ∙ ap numberOf (n .ensures .0))
+    taking-turn numberIn (a .t .now) (a .log .now) (a .verdicts .now) (l .t) (l .verdicts) _ (l .i) (c .number-of .result) (l .inv) (omega arith) (n .kept .0) (n .ensures .1) (c .number-of .ensures ∙ ap numberIn (n .ensures .0))
 
 same-length : tie.Need-same-length Inv-loop μ-loop
 same-length c = search needs
@@ -50,7 +50,7 @@ returns : tie.Need-returns Inv-loop μ-loop
 returns c =
     let l = c .before .loop in
     let a = c .before .before .before .before .before .args in
-    taking-end numberOf (a .t .now) (a .log .now) (a .verdicts .now) (l .t) (l .verdicts) (l .i) (l .inv) (omega arith)
+    taking-end numberIn (a .t .now) (a .log .now) (a .verdicts .now) (l .t) (l .verdicts) (l .i) (l .inv) (omega arith)
 
 pub take-all-spec : {M : Type 1} → statement M
 take-all-spec =

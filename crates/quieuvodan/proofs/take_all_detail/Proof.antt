@@ -4,19 +4,19 @@ use native.Mathlib.Omega.{arith}
 use Prim.Native.Nat.{_-_}
 use mathlib.Core.Path.{ap, _∙_}
 use lib.ListN.{length, length-set}
-use Rattle.boundary.specs.Detail.{detailOf}
+use Rattle.boundary.specs.Detail.{detailIn}
 use Rattle.boundary.proofs.ReplayLaws.{Taking, taking-start, taking-turn, taking-end}
 use Rattle.quieuvodan.proofs.take_all_detail.Statement.{statement}
 use Rattle.quieuvodan.proofs.take_all_detail.Tie as tie
 
 abbrev Inv-loop : tie.InvT-loop
-Inv-loop t₀ log details₀ i₀ t details i = Taking detailOf t₀ log details₀ t details i
+Inv-loop t₀ log details₀ i₀ t details i = Taking detailIn t₀ log details₀ t details i
 
 abbrev μ-loop : tie.MeasureT-loop
 μ-loop t₀ log details₀ i₀ t details i = length details - i
 
 loop-holds : tie.Need-loop-holds Inv-loop μ-loop
-loop-holds c = let a = c .before .before .before .args in taking-start detailOf (a .t .now) (a .log .now) (a .details .now) (c .before .before .before .pre)
+loop-holds c = let a = c .before .before .before .args in taking-start detailIn (a .t .now) (a .log .now) (a .details .now) (c .before .before .before .pre)
 
 take-nth-requires : tie.Need-take-nth-requires Inv-loop μ-loop
 take-nth-requires c κs = search needs
@@ -41,7 +41,7 @@ loop-again c =
     let l = c .before .before .before .before .before .before .loop in
     let a = c .before .before .before .before .before .before .before .before .before .before .args in
     let n = c .before .before .before .take-nth in
-    taking-turn detailOf (a .t .now) (a .log .now) (a .details .now) (l .t) (l .details) _ (l .i) (c .detail .result) (l .inv) (omega arith) (n .kept .0) (n .ensures .1) (c .detail .ensures ∙ ap detailOf (n .ensures .0))
+    taking-turn detailIn (a .t .now) (a .log .now) (a .details .now) (l .t) (l .details) _ (l .i) (c .detail .result) (l .inv) (omega arith) (n .kept .0) (n .ensures .1) (c .detail .ensures ∙ ap detailIn (n .ensures .0))
 
 same-length : tie.Need-same-length Inv-loop μ-loop
 same-length c = search needs
@@ -53,7 +53,7 @@ returns : tie.Need-returns Inv-loop μ-loop
 returns c =
     let l = c .before .loop in
     let a = c .before .before .before .before .before .args in
-    taking-end detailOf (a .t .now) (a .log .now) (a .details .now) (l .t) (l .details) (l .i) (l .inv) (omega arith)
+    taking-end detailIn (a .t .now) (a .log .now) (a .details .now) (l .t) (l .details) (l .i) (l .inv) (omega arith)
 
 pub take-all-detail-spec : {M : Type 1} → statement M
 take-all-detail-spec =

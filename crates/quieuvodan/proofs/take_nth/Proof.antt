@@ -2,7 +2,7 @@ use borrow.Author.Needs.{needs}
 use native.Mathlib.Omega.{arith}
 use mathlib.Core.Path.{ap, _∙_}
 use mathlib.Core.Logic.{⊎-elim}
-use Rattle.in_force.specs.Bytes.{takeVerdict, takeBytes}
+use Rattle.in_force.specs.Bytes.{takeSays, takeBytes}
 use Rattle.in_force.proofs.LogLaws.{piece-whole, piece-last}
 use Rattle.quieuvodan.proofs.take_nth.Statement.{statement}
 use Rattle.quieuvodan.proofs.take_nth.Tie as tie
@@ -36,7 +36,7 @@ returns c =
     let a = c .before .before .before .before .before .before .before .before .before .args in
     let t = c .before .before .take-in .ensures in
     let e = c .before .before .before .before .before .before .if1 .came in (
-      t .0 ∙ ap (takeVerdict (a .t .now)) (⊎-elim (λ w. rw (w .1) (piece-last (a .log .now) (a .i) (w .0 .taken))) (λ w. rw (w .1) (piece-whole (a .log .now) (a .i))) e),
+      t .0 ∙ ap (takeSays (a .t .now)) (⊎-elim (λ w. rw (w .1) (piece-last (a .log .now) (a .i) (w .0 .taken))) (λ w. rw (w .1) (piece-whole (a .log .now) (a .i))) e),
       t .1 ∙ ap (takeBytes (a .t .now)) (⊎-elim (λ w. rw (w .1) (piece-last (a .log .now) (a .i) (w .0 .taken))) (λ w. rw (w .1) (piece-whole (a .log .now) (a .i))) e),
     )
 

@@ -25,7 +25,7 @@ returns c =
     let s = start .args .t .now in
     let f = start .args .frame .now in
     let shell = at .shell-for .ensures ∙ ap (λ (p : ℕ). shellFor p f) (at .before .ledger-prn .ensures) in
-    way-shut s f (at .shell-for .result) shell (λ z. c .if1 .taken (c .before .number-of .ensures ∙ z))
+    way-shut s f _ shell (λ z. c .if1 .taken (c .before .number-of .ensures ∙ z))
 
 kind-of-requires : tie.Need-kind-of-requires
 kind-of-requires c κs = search needs
@@ -37,7 +37,7 @@ take-type-1-requires c κs =
     let s = start .args .t .now in
     let f = start .args .frame .now in
     let shell = at .shell-for .ensures ∙ ap (λ (p : ℕ). shellFor p f) (at .before .ledger-prn .ensures) in
-    (way-open s f (at .shell-for .result) shell (sym (c .before .before .before .before .number-of .ensures) ∙ c .before .before .before .if1 .left), sym (c .before .before .kind-of .ensures) ∙ c .before .if2 .taken)
+    (way-open s f _ shell (sym (c .before .before .before .before .number-of .ensures) ∙ c .before .before .before .if1 .left), sym (c .before .before .kind-of .ensures) ∙ c .before .if2 .taken)
 
 same-length-2 : tie.Need-same-length-2
 same-length-2 c = search needs
@@ -52,7 +52,7 @@ take-parts-requires c κs =
     let s = start .args .t .now in
     let f = start .args .frame .now in
     let shell = at .shell-for .ensures ∙ ap (λ (p : ℕ). shellFor p f) (at .before .ledger-prn .ensures) in
-    (way-open s f (at .shell-for .result) shell (sym (c .before .before .before .before .number-of .ensures) ∙ c .before .before .before .if1 .left), λ z. c .before .if2 .left (c .before .before .kind-of .ensures ∙ z))
+    (way-open s f _ shell (sym (c .before .before .before .before .number-of .ensures) ∙ c .before .before .before .if1 .left), λ z. c .before .if2 .left (c .before .before .kind-of .ensures ∙ z))
 
 same-length-3 : tie.Need-same-length-3
 same-length-3 c = search needs

@@ -51,8 +51,8 @@ returns-2 c =
     let f = start .args .frame .now in
     let judged = (rw (kind, clock, orbit) at (at .refusal-of-parts .ensures)) ∙ parts-refusal (contentsOf f) (mask-absent f 28 (start .pre .1)) in
     let placed = c .before .before .place-verdict in
-    let verdict = rw (kind, clock) at (placed .ensures) in
-    way-refused s f (start .pre .0) _ judged (c .before .before .before .before .if1 .left) (placed .result) verdict (λ z. c .if2 .taken (c .before .number-of .ensures ∙ z))
+    let said = rw (kind, clock) at (placed .ensures) in
+    way-refused s f (start .pre .0) _ judged (c .before .before .before .before .if1 .left) _ said (λ z. c .if2 .taken (c .before .number-of .ensures ∙ z))
 
 take-clocks-requires : tie.Need-take-clocks-requires
 take-clocks-requires c κs =
@@ -65,8 +65,8 @@ take-clocks-requires c κs =
     let f = start .args .frame .now in
     let judged = (rw (kind, clock, orbit) at (at .refusal-of-parts .ensures)) ∙ parts-refusal (contentsOf f) (mask-absent f 28 (start .pre .1)) in
     let placed = c .before .before .before .place-verdict in
-    let verdict = rw (kind, clock) at (placed .ensures) in
-    rw (kind, clock) (way-placed s f (start .pre .0) _ judged (c .before .before .before .before .before .if1 .left) (placed .result) verdict (sym (c .before .before .number-of .ensures) ∙ c .before .if2 .left))
+    let said = rw (kind, clock) at (placed .ensures) in
+    rw (kind, clock) (way-placed s f (start .pre .0) _ judged (c .before .before .before .before .before .if1 .left) _ said (sym (c .before .before .number-of .ensures) ∙ c .before .if2 .left))
 
 take-orbits-requires : tie.Need-take-orbits-requires
 take-orbits-requires c κs = search needs
@@ -85,11 +85,11 @@ returns-3 c =
     let f = start .args .frame .now in
     let judged = (rw (kind, clock, orbit) at (at .refusal-of-parts .ensures)) ∙ parts-refusal (contentsOf f) (mask-absent f 28 (start .pre .1)) in
     let placed = c .before .before .before .before .before .before .before .before .before .before .place-verdict in
-    let verdict = rw (kind, clock) at (placed .ensures) in
+    let said = rw (kind, clock) at (placed .ensures) in
     let free = sym (c .before .before .before .before .before .before .before .before .before .number-of .ensures) ∙ c .before .before .before .before .before .before .before .before .if2 .left in
     let clocks = rw (kind, clock) at (c .before .before .before .before .before .before .take-clocks .ensures) in
     let orbits = rw (kind, orbit, clocks) at (c .before .before .take-orbits .ensures) in
-    way-taken s f (start .pre .0) _ judged (c .before .before .before .before .before .before .before .before .before .before .before .before .if1 .left) (placed .result) verdict free (start .pre .1) _ orbits
+    way-taken s f (start .pre .0) _ judged (c .before .before .before .before .before .before .before .before .before .before .before .before .if1 .left) _ said free (start .pre .1) _ orbits
 
 pub take-parts-spec : {M : Type 1} → statement M
 take-parts-spec =

@@ -1,7 +1,8 @@
 use borrow.Author.Needs.{needs}
 use mathlib.Core.Path.{sym, ap, _∙_}
 use borrow.Author.Tests.{not-true, not-false}
-use Rattle.list.specs.Row.{rowOf, qualifies}
+use Rattle.list.specs.Row.{rowOf, qualifies, rowSays}
+use Rattle.list.specs.declared.row.Row.{Row}
 use Rattle.list.specs.declared.row.RowAnswer.the-variants.{Found}
 use Rattle.list.proofs.row.slot_row.Statement.{statement}
 use Rattle.list.proofs.row.slot_row.Tie as tie
@@ -93,7 +94,7 @@ returns-6 c =
       sym (o .before .before .has-bit .ensures) ∙ not-false _ (o .before .if3 .left),
       sym (rw (d .before .mask-ssr .ensures, k .get-clock .ensures, o .get-orbit .ensures) at (d .do-agree .ensures)) ∙ not-false _ (c .before .before .before .if4 .left),
       sym (rw (k .get-clock .ensures, o .get-orbit .ensures) at (c .before .before .is-usable .ensures)) ∙ not-false _ (c .before .if5 .left),
-    ) (ap Found (rw (k .get-clock .ensures, o .get-orbit .ensures) at (c .row-from .ensures)))
+    ) (ap (λ (r : Row). rowSays (Found r)) (rw (k .get-clock .ensures, o .get-orbit .ensures) at (c .row-from .ensures)))
 
 pub slot-row-spec : {M : Type 1} → statement M
 slot-row-spec =

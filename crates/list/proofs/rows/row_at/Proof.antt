@@ -1,12 +1,12 @@
 use borrow.Author.Needs.{needs}
 use native.Mathlib.Omega.{arith}
-use Prim.Native.Nat.{_+_, _-_, _≤_, _<_}
+use Prim.Native.Nat.{ℕ, _+_, _-_, _≤_, _<_}
 use mathlib.Core.Path.{_≡_, sym, ap, _∙_}
 use lib.ListN.{length}
 use mathlib.Core.Logic.{inl}
 use Rattle.lookback.specs.Walk.{nthFrom, nthOf}
 use Rattle.lookback.proofs.WalkLaws.{nth-hit, nth-pass, nth-skip, nth-end, nth-rows, nth-missing}
-use Rattle.list.specs.Row.{answerOf}
+use Rattle.list.specs.Row.{rowSays, answerOf}
 use Rattle.list.specs.Rows.{rowIn, listIn}
 use Rattle.list.specs.declared.row.RowAnswer.the-variants as answer
 use Rattle.list.proofs.AnswerLaws.{at-bad, at-right, found-some, refused-none, row-next, issues-long}
@@ -26,7 +26,7 @@ issues-refusal-requires c κs = search needs
 returns : tie.Need-returns Inv-loop μ-loop
 returns c =
     let e = c .before .issues-refusal .ensures in
-    ap answer.Refused e ∙ sym (at-bad _ _ _ (λ z. c .if1 .taken (e ∙ z)))
+    ap (λ (n : ℕ). rowSays (answer.Refused n)) e ∙ sym (at-bad _ _ _ (λ z. c .if1 .taken (e ∙ z)))
 
 returns-2 : tie.Need-returns-2 Inv-loop μ-loop
 returns-2 c =
@@ -73,7 +73,7 @@ loop-again c =
     let w = c .before .before .before .before .before .loop in
     let a = c .before .before .before .before .before .before .before .before .before .before .before .args in
     let f = rowIn (a .ledger .now) (a .issues .now) in
-    let e = row-next (a .ledger .now) (a .issues .now) (w .i) ∙ refused-none _ _ (sym (c .before .before .slot-row .ensures) ∙ c .enum-told .given .1) in
+    let e = row-next (a .ledger .now) (a .issues .now) (w .i) ∙ refused-none _ _ (sym (c .before .before .slot-row .ensures) ∙ ap rowSays (c .enum-told .given .1)) in
     (omega arith, w .inv .1, w .inv .2, sym (nth-skip f 255 (w .i) (w .i + 1) (w .left) (omega arith) e) ∙ w .inv .3)
 
 returns-3 : tie.Need-returns-3 Inv-loop μ-loop
@@ -81,7 +81,7 @@ returns-3 c =
     let w = c .before .before .before .before .before .before .before .loop in
     let a = c .before .before .before .before .before .before .before .before .before .before .before .before .before .args in
     let f = rowIn (a .ledger .now) (a .issues .now) in
-    let e = row-next (a .ledger .now) (a .issues .now) (w .i) ∙ found-some _ _ (sym (c .before .before .before .before .slot-row .ensures) ∙ c .before .before .a .given .1) in
+    let e = row-next (a .ledger .now) (a .issues .now) (w .i) ∙ found-some _ _ (sym (c .before .before .before .before .slot-row .ensures) ∙ ap rowSays (c .before .before .a .given .1)) in
     sym (at-right _ _ _ (sym (c .before .before .before .before .before .before .before .before .before .before .issues-refusal .ensures) ∙ c .before .before .before .before .before .before .before .before .before .if1 .left)
     ∙ ap (answerOf 0) (sym (w .inv .3) ∙ nth-hit f 255 (w .i) (w .i + 1) (w .left) _ (omega arith) e (c .if3 .taken)))
 
@@ -96,7 +96,7 @@ loop-again-2 c =
     let w = c .before .before .before .before .before .before .before .loop in
     let a = c .before .before .before .before .before .before .before .before .before .before .before .before .before .args in
     let f = rowIn (a .ledger .now) (a .issues .now) in
-    let e = row-next (a .ledger .now) (a .issues .now) (w .i) ∙ found-some _ _ (sym (c .before .before .before .before .slot-row .ensures) ∙ c .before .before .a .given .1) in
+    let e = row-next (a .ledger .now) (a .issues .now) (w .i) ∙ found-some _ _ (sym (c .before .before .before .before .slot-row .ensures) ∙ ap rowSays (c .before .before .a .given .1)) in
     (omega arith, omega arith, w .inv .2, sym (nth-pass f 255 (w .i) (w .i + 1) (w .left) _ (omega arith) e (c .if3 .left)) ∙ w .inv .3)
 
 returns-4 : tie.Need-returns-4 Inv-loop μ-loop

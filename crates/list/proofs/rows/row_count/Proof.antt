@@ -1,13 +1,13 @@
 use borrow.Author.Needs.{needs}
 use native.Mathlib.Omega.{arith}
-use Prim.Native.Nat.{_+_, _-_, _≤_}
+use Prim.Native.Nat.{ℕ, _+_, _-_, _≤_}
 use mathlib.Core.Path.{_≡_, sym, ap, _∙_}
 use lib.ListN.{length, getD}
 use Rattle.lookback.specs.Walk.{countFrom, toList}
 use Rattle.lookback.proofs.WalkLaws.{count-step, count-end, count-length}
 use mathlib.Core.Option.{Option}
 use Rattle.list.specs.Row.{rowHeld}
-use Rattle.list.specs.Rows.{rowIn, foundCount}
+use Rattle.list.specs.Rows.{rowIn, foundCount, countSays}
 use Rattle.list.specs.declared.row.Row.{Row}
 use Rattle.list.specs.declared.rows.Count.the-variants as count
 use Rattle.list.proofs.AnswerLaws.{count-bad, count-right, count-one, found-le, row-next, issues-long}
@@ -27,7 +27,7 @@ issues-refusal-requires c κs = search needs
 returns : tie.Need-returns Inv-loop μ-loop
 returns c =
     let e = c .before .issues-refusal .ensures in
-    ap count.Refused e ∙ sym (count-bad _ _ (λ z. c .if1 .taken (e ∙ z)))
+    ap (λ (n : ℕ). countSays (count.Refused n)) e ∙ sym (count-bad _ _ (λ z. c .if1 .taken (e ∙ z)))
 
 loop-holds : tie.Need-loop-holds Inv-loop μ-loop
 loop-holds c = (search needs, search needs, issues-long _ (sym (c .before .issues-refusal .ensures) ∙ c .if1 .left), omega arith)
@@ -79,7 +79,7 @@ returns-2 c =
     let a = c .before .before .before .before .before .before .args in
     let f = rowIn (a .ledger .now) (a .issues .now) in
     let e : w .n ≡ countFrom f 255 1 = omega (arith, count-end f 255 (w .i) (w .i + 1) (omega arith)) in
-    ap count.Rows (e ∙ count-length f 255 1) ∙ sym (count-right _ _ (sym (c .before .before .before .issues-refusal .ensures) ∙ c .before .before .if1 .left))
+    ap (λ (n : ℕ). countSays (count.Rows n)) (e ∙ count-length f 255 1) ∙ sym (count-right _ _ (sym (c .before .before .before .issues-refusal .ensures) ∙ c .before .before .if1 .left))
 
 pub row-count-spec : {M : Type 1} → statement M
 row-count-spec =

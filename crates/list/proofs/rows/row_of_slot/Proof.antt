@@ -1,6 +1,7 @@
 use borrow.Author.Needs.{needs}
-use Prim.Native.Nat.{_-_}
+use Prim.Native.Nat.{ℕ, _-_}
 use mathlib.Core.Path.{sym, ap, _∙_}
+use Rattle.list.specs.Row.{rowSays}
 use Rattle.list.specs.declared.row.RowAnswer.the-variants as answer
 use Rattle.list.proofs.AnswerLaws.{slot-len, slot-zero, slot-high, slot-bad, slot-right}
 use Rattle.list.proofs.rows.row_of_slot.Statement.{statement}
@@ -22,7 +23,7 @@ returns-4 : tie.Need-returns-4
 returns-4 c =
     let e = c .before .issues-refusal .ensures in
     let d = c .before .before in
-    ap answer.Refused e ∙ sym (slot-bad _ _ (d .before .before .if1 .left) _ (d .before .if2 .left) (d .if3 .left) (λ z. c .if4 .taken (e ∙ z)))
+    ap (λ (n : ℕ). rowSays (answer.Refused n)) e ∙ sym (slot-bad _ _ (d .before .before .if1 .left) _ (d .before .if2 .left) (d .if3 .left) (λ z. c .if4 .taken (e ∙ z)))
 
 sub-i : tie.Need-sub-i
 sub-i c = search needs
