@@ -5,7 +5,7 @@ use records::ura::Ura;
 use verdict::Verdict;
 
 // The cursor itself, or the room's end where it lies past that.
-pub fn place_in(room: &[u8], at: usize) -> usize
+pub fn cursor_in(room: &[u8], at: usize) -> usize
     ensures { λ r. ⌜ Counts r (now (room .entry)) ⌝ }
 {
     if at < room.len() {
@@ -29,7 +29,7 @@ pub fn put_byte(room: &mut [u8], at: usize, b: u8) -> usize
 pub fn put_bytes(room: &mut [u8], at: usize, s: &[u8]) -> usize
     ensures { λ r. ⌜ Counts r (now (room .exit)) ⌝ }
 {
-    let mut n = place_in(room, at);
+    let mut n = cursor_in(room, at);
     let mut i: usize = 0;
     while i < s.len() {
         n = put_byte(room, n, s[i]);
@@ -63,7 +63,7 @@ fn put_sign(room: &mut [u8], at: usize, x: i32) -> usize
     if x < 0 {
         return put_byte(room, at, b'-');
     }
-    place_in(room, at)
+    cursor_in(room, at)
 }
 
 // A number in decimal, with a minus sign below 0.
@@ -149,8 +149,8 @@ pub fn put_detail(room: &mut [u8], at: usize, v: Verdict) -> usize
     ensures { λ r. ⌜ Counts r (now (room .exit)) ⌝ }
 {
     match v {
-        Verdict::Taken => place_in(room, at),
-        Verdict::Refused(_) => place_in(room, at),
+        Verdict::Taken => cursor_in(room, at),
+        Verdict::Refused(_) => cursor_in(room, at),
         Verdict::Parity(first, failing) => {
             let a = put_field(room, at, b"group", first as u64);
             put_field(room, a, b"failing", failing as u64)
@@ -186,7 +186,7 @@ fn printable(b: u8) -> u8 {
 fn put_printable(room: &mut [u8], at: usize, s: &[u8]) -> usize
     ensures { λ r. ⌜ Counts r (now (room .exit)) ⌝ }
 {
-    let mut n = place_in(room, at);
+    let mut n = cursor_in(room, at);
     let mut i: usize = 0;
     while i < s.len() {
         n = put_byte(room, n, printable(s[i]));
@@ -199,7 +199,7 @@ fn put_printable(room: &mut [u8], at: usize, s: &[u8]) -> usize
 pub fn put_quoted(room: &mut [u8], at: usize, word: &[u8]) -> usize
     ensures { λ r. ⌜ Counts r (now (room .exit)) ⌝ }
 {
-    let k = place_in(word, 40);
+    let k = cursor_in(word, 40);
     let a = put_byte(room, at, 34);
     let b = put_printable(room, a, &word[..k]);
     let c = put_byte(room, b, 34);

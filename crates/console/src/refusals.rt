@@ -1,6 +1,6 @@
 // Refusals in words.
 ghost use Rattle.io.specs.Counts.{Counts};
-use crate::put::place_in;
+use crate::put::cursor_in;
 use crate::put::put_byte;
 
 // The number of the line after a byte of a line.
@@ -20,14 +20,14 @@ fn put_wanted(room: &mut [u8], at: usize, b: u8, wanted: bool) -> usize
     if wanted & (b != 10) {
         return put_byte(room, at, b);
     }
-    place_in(room, at)
+    cursor_in(room, at)
 }
 
 // The line of a text with a number, from 1; nothing where there is none.
 pub fn put_line(room: &mut [u8], at: usize, text: &[u8], number: u8) -> usize
     ensures { λ r. ⌜ Counts r (now (room .exit)) ⌝ }
 {
-    let mut n = place_in(room, at);
+    let mut n = cursor_in(room, at);
     let mut line: u8 = 1;
     let mut i: usize = 0;
     while i < text.len() {

@@ -1,7 +1,9 @@
 // Turns of a program over its input, and what is wrong with a line. Lines that become something else are passed over twice: the first pass looks for
 // faults and writes nothing, the second writes. Input that cannot be rewound has the second alone, and a fault then says how much was written.
+ghost use mathlib.Core.Path.{_≡_};
+ghost use Prim.Native.Nat.{_+_, _≤_};
 ghost use Rattle.io.specs.Counts.{Counts};
-use crate::put::place_in;
+use crate::put::cursor_in;
 use crate::put::put_byte;
 use crate::put::put_bytes;
 use crate::put::put_number;
@@ -25,7 +27,9 @@ pub struct Pass {
 }
 
 // How much was written after a turn.
-pub fn counted(written: u64, state: u8) -> u64 {
+pub fn counted(written: u64, state: u8) -> u64
+    ensures { λ r. ⌜ (written ≤ r) × (r ≤ written + 1) ⌝ }
+{
     if state == WRITTEN {
         if written < u64::MAX {
             return written + 1;
@@ -35,7 +39,9 @@ pub fn counted(written: u64, state: u8) -> u64 {
 }
 
 // The program's status after its last turn.
-pub fn status_of(state: u8) -> u8 {
+pub fn status_of(state: u8) -> u8
+    ensures { λ r. ⌜ r ≤ 1 ⌝ }
+{
     if state == WRONG { 1 } else { 0 }
 }
 
@@ -71,15 +77,17 @@ fn put_written(room: &mut [u8], at: usize, thing: &[u8], p: Pass) -> usize
     ensures { λ r. ⌜ Counts r (now (room .exit)) ⌝ }
 {
     if !p.writes {
-        return place_in(room, at);
+        return cursor_in(room, at);
     }
     let a = put_bytes(room, at, b"; ");
     let b = put_things(room, a, thing, p.written);
     put_bytes(room, b, b" written")
 }
 
-// What is wrong with a line.
-pub fn say_line(program: &[u8], file: &[u8], thing: &[u8], p: Pass, what: &[u8]) -> u8 {
+// What is wrong with a line; the answer is that something was.
+pub fn say_line(program: &[u8], file: &[u8], thing: &[u8], p: Pass, what: &[u8]) -> u8
+    ensures { λ r. ⌜ r ≡ 3 ⌝ }
+{
     let mut room = io::buffer();
     let a = put_bytes(&mut room, 0, what);
     let n = put_written(&mut room, a, thing, p);
@@ -87,8 +95,10 @@ pub fn say_line(program: &[u8], file: &[u8], thing: &[u8], p: Pass, what: &[u8])
     WRONG
 }
 
-// What the system says where a line cannot be read.
-pub fn say_unread(program: &[u8], file: &[u8], thing: &[u8], p: Pass) -> u8 {
+// What the system says where a line cannot be read; the answer is that something was wrong.
+pub fn say_unread(program: &[u8], file: &[u8], thing: &[u8], p: Pass) -> u8
+    ensures { λ r. ⌜ r ≡ 3 ⌝ }
+{
     let mut room = io::large_buffer();
     let a = put_where(&mut room, program, file, b"line", p.number);
     let n = put_written(&mut room, a, thing, p);

@@ -4,7 +4,7 @@ ghost use Prim.Native.Nat.{_≤_};
 ghost use mathlib.Core.Bool.{true};
 ghost use lib.ListN.{length};
 ghost use Rattle.console.specs.Words.{valueOf, sizeOf};
-use crate::put::place_in;
+use crate::put::cursor_in;
 
 // The bytes of a line from one position to another; no word where the two are one.
 pub struct Word {
@@ -48,7 +48,7 @@ fn seek(s: &[u8], at: usize, blank: bool) -> usize
 pub fn next_word(s: &[u8], at: usize) -> Word
     ensures { λ r. ⌜ (r .from ≤ r .to) × (r .to ≤ length (now (s .entry))) ⌝ }
 {
-    let first = place_in(s, at);
+    let first = cursor_in(s, at);
     let from = seek(s, first, false);
     let to = seek(s, from, true);
     Word { from, to }
@@ -160,8 +160,13 @@ pub fn starts(s: &[u8], b: u8) -> bool
 }
 
 // Whether a text is an option: a minus sign and more. A minus sign alone is standard input.
-pub fn is_option(s: &[u8]) -> bool {
-    starts(s, b'-') & (s.len() > 1)
+pub fn is_option(s: &[u8]) -> bool
+    ensures { λ r. ⌜ (r ≡ true → 2 ≤ length (now (s .entry))) ⌝ }
+{
+    if s.len() < 2 {
+        return false;
+    }
+    s[0] == b'-'
 }
 
 // How many bytes the byte order mark has that a text starts with: 3, or 0 where it starts with none.

@@ -3,7 +3,7 @@ ghost use mathlib.Core.Path.{_≡_};
 ghost use Prim.Native.Nat.{_≤_};
 ghost use Rattle.io.specs.Counts.{Counts};
 ghost use Rattle.d1_subframes.specs.Subframe.{frameOf, secondOf};
-use console::put::place_in;
+use console::put::cursor_in;
 use console::put::put_bytes;
 
 // Bytes, and whether they were well formed.
@@ -39,7 +39,7 @@ fn put_pair(room: &mut [u8], at: usize, x: u8) -> usize
 pub(crate) fn put_hex(room: &mut [u8], at: usize, s: &[u8]) -> usize
     ensures { λ r. ⌜ Counts r (now (room .exit)) ⌝ }
 {
-    let mut n = place_in(room, at);
+    let mut n = cursor_in(room, at);
     let mut i: usize = 0;
     while i < s.len() {
         n = put_pair(room, n, s[i]);

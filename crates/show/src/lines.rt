@@ -1,6 +1,6 @@
 // The line of a message's contents.
 ghost use Rattle.io.specs.Counts.{Counts};
-use console::put::place_in;
+use console::put::cursor_in;
 use console::put::put_byte;
 use console::put::put_bytes;
 use console::put::put_field;
@@ -38,14 +38,14 @@ fn put_slot(room: &mut [u8], at: usize, slot: usize, set: bool) -> usize
     if set {
         return put_after(room, at, b' ', slot as u64);
     }
-    place_in(room, at)
+    cursor_in(room, at)
 }
 
 // The slots of the mask bits that are set.
 fn put_slots(room: &mut [u8], at: usize, bits: [bool; 255]) -> usize
     ensures { λ r. ⌜ Counts r (now (room .exit)) ⌝ }
 {
-    let mut n = place_in(room, at);
+    let mut n = cursor_in(room, at);
     let mut i: usize = 0;
     while i < 255 {
         n = put_slot(room, n, i + 1, bits[i]);
@@ -177,7 +177,7 @@ fn put_place(room: &mut [u8], at: usize, slotted: bool, k: ClockPart) -> usize
     ensures { λ r. ⌜ Counts r (now (room .exit)) ⌝ }
 {
     if slotted {
-        return place_in(room, at);
+        return cursor_in(room, at);
     }
     let a = put_field(room, at, b"iodp", k.iodp as u64);
     put_field(room, a, b"from", k.start as u64)
@@ -188,7 +188,7 @@ fn put_first_part(room: &mut [u8], at: usize, slotted: bool, k: ClockPart) -> us
     ensures { λ r. ⌜ Counts r (now (room .exit)) ⌝ }
 {
     if k.count == 0 {
-        return place_in(room, at);
+        return cursor_in(room, at);
     }
     let ks = k.clocks;
     let a = put_field(room, at, b"clock-epoch", k.epoch as u64);
@@ -202,7 +202,7 @@ fn put_second_part(room: &mut [u8], at: usize, o: OrbitPart) -> usize
     ensures { λ r. ⌜ Counts r (now (room .exit)) ⌝ }
 {
     if o.count == 0 {
-        return place_in(room, at);
+        return cursor_in(room, at);
     }
     let os = o.orbits;
     let a = put_field(room, at, b"orbit-epoch", o.epoch as u64);
@@ -234,7 +234,7 @@ fn put_parts(room: &mut [u8], at: usize, c: Contents) -> usize
         4 => put_clock_part(room, at, k),
         6 => put_two_parts(room, at, false, c),
         7 => put_two_parts(room, at, true, c),
-        _ => place_in(room, at),
+        _ => cursor_in(room, at),
     }
 }
 

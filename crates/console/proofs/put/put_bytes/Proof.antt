@@ -8,7 +8,7 @@ use Rattle.console.proofs.put.put_bytes.Statement.{statement}
 use Rattle.console.proofs.put.put_bytes.Tie as tie
 use Rattle.console.proofs.put.put_bytes.Reads as reads
 use Rattle.console.proofs.put.put_bytes.Lts as lts
-use Rattle.console.proofs.put.place_in.Reads as place-in-reads
+use Rattle.console.proofs.put.cursor_in.Reads as cursor-in-reads
 use Rattle.console.proofs.put.put_byte.Reads as put-byte-reads
 
 abbrev Inv-loop : tie.InvT-loop
@@ -17,8 +17,8 @@ Inv-loop room₀ at s n₀ i₀ room n i = (length room ≡ length room₀) × (
 abbrev μ-loop : tie.MeasureT-loop
 μ-loop room₀ at s n₀ i₀ room n i = length s - i
 
-place-in-requires : tie.Need-place-in-requires Inv-loop μ-loop
-place-in-requires c κs = search needs
+cursor-in-requires : tie.Need-cursor-in-requires Inv-loop μ-loop
+cursor-in-requires c κs = search needs
 
 loop-holds : tie.Need-loop-holds Inv-loop μ-loop
 loop-holds c = search needs
@@ -50,7 +50,7 @@ put-bytes-spec =
     (tie.spec
     Inv-loop
     μ-loop
-    place-in-requires
+    cursor-in-requires
     loop-holds
     shared-slice-read-put-byte
     put-byte-requires

@@ -8,7 +8,7 @@ use Rattle.console.proofs.put.put_printable.Statement.{statement}
 use Rattle.console.proofs.put.put_printable.Tie as tie
 use Rattle.console.proofs.put.put_printable.Reads as reads
 use Rattle.console.proofs.put.put_printable.Lts as lts
-use Rattle.console.proofs.put.place_in.Reads as place-in-reads
+use Rattle.console.proofs.put.cursor_in.Reads as cursor-in-reads
 use Rattle.console.proofs.put.printable.Reads as printable-reads
 use Rattle.console.proofs.put.put_byte.Reads as put-byte-reads
 
@@ -18,8 +18,8 @@ Inv-loop room₀ at s n₀ i₀ room n i = (length room ≡ length room₀) × (
 abbrev μ-loop : tie.MeasureT-loop
 μ-loop room₀ at s n₀ i₀ room n i = length s - i
 
-place-in-requires : tie.Need-place-in-requires Inv-loop μ-loop
-place-in-requires c κs = search needs
+cursor-in-requires : tie.Need-cursor-in-requires Inv-loop μ-loop
+cursor-in-requires c κs = search needs
 
 loop-holds : tie.Need-loop-holds Inv-loop μ-loop
 loop-holds c = search needs
@@ -54,7 +54,7 @@ put-printable-spec =
     (tie.spec
     Inv-loop
     μ-loop
-    place-in-requires
+    cursor-in-requires
     loop-holds
     shared-slice-read-printable
     printable-requires

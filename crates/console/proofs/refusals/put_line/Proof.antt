@@ -8,7 +8,7 @@ use Rattle.console.proofs.refusals.put_line.Statement.{statement}
 use Rattle.console.proofs.refusals.put_line.Tie as tie
 use Rattle.console.proofs.refusals.put_line.Reads as reads
 use Rattle.console.proofs.refusals.put_line.Lts as lts
-use Rattle.console.proofs.put.place_in.Reads as place-in-reads
+use Rattle.console.proofs.put.cursor_in.Reads as cursor-in-reads
 use Rattle.console.proofs.refusals.line_after.Reads as line-after-reads
 use Rattle.console.proofs.refusals.put_wanted.Reads as put-wanted-reads
 
@@ -18,8 +18,8 @@ Inv-loop room₀ at text number n₀ line₀ i₀ room n line i = (length room �
 abbrev μ-loop : tie.MeasureT-loop
 μ-loop room₀ at text number n₀ line₀ i₀ room n line i = length text - i
 
-place-in-requires : tie.Need-place-in-requires Inv-loop μ-loop
-place-in-requires c κs = search needs
+cursor-in-requires : tie.Need-cursor-in-requires Inv-loop μ-loop
+cursor-in-requires c κs = search needs
 
 loop-holds : tie.Need-loop-holds Inv-loop μ-loop
 loop-holds c = search needs
@@ -57,7 +57,7 @@ put-line-spec =
     (tie.spec
     Inv-loop
     μ-loop
-    place-in-requires
+    cursor-in-requires
     loop-holds
     shared-slice-read-put-wanted
     put-wanted-requires

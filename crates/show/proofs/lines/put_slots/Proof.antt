@@ -9,7 +9,7 @@ use Rattle.show.proofs.lines.put_slots.Tie as tie
 use Rattle.show.proofs.lines.put_slots.Reads as reads
 use Rattle.show.proofs.lines.put_slots.Lts as lts
 use Rattle.show.proofs.lines.put_slot.Reads as put-slot-reads
-use Rattle.console.proofs.put.place_in.Reads as place-in-reads
+use Rattle.console.proofs.put.cursor_in.Reads as cursor-in-reads
 
 abbrev Inv-loop : tie.InvT-loop
 Inv-loop room₀ at bits n₀ i₀ room n i = (length room ≡ length room₀) × (n ≤ length room) × (i ≤ 255)
@@ -17,8 +17,8 @@ Inv-loop room₀ at bits n₀ i₀ room n i = (length room ≡ length room₀) �
 abbrev μ-loop : tie.MeasureT-loop
 μ-loop room₀ at bits n₀ i₀ room n i = 255 - i
 
-place-in-requires : tie.Need-place-in-requires Inv-loop μ-loop
-place-in-requires c κs = search needs
+cursor-in-requires : tie.Need-cursor-in-requires Inv-loop μ-loop
+cursor-in-requires c κs = search needs
 
 loop-holds : tie.Need-loop-holds Inv-loop μ-loop
 loop-holds c = search needs
@@ -53,7 +53,7 @@ put-slots-spec =
     (tie.spec
     Inv-loop
     μ-loop
-    place-in-requires
+    cursor-in-requires
     loop-holds
     add-put-slot
     array-read-put-slot
