@@ -3,7 +3,7 @@ ghost use Prim.Native.Nat.{_≤_};
 ghost use Rattle.io.specs.Counts.{Counts};
 use crate::options::NONE;
 use crate::options::Options;
-use console::put::place_in;
+use console::put::cursor_in;
 use console::put::put_byte;
 use console::put::put_bytes;
 use console::put::put_field;
@@ -113,7 +113,7 @@ fn put_few(room: &mut [u8], at: usize, f: Found, o: Options) -> usize
     if is_few(f, o) {
         return put_limit(room, at, b"rows", f.rows as u64, b"below", o.rows as u64);
     }
-    place_in(room, at)
+    cursor_in(room, at)
 }
 
 // The line of the frames refused.
@@ -121,7 +121,7 @@ fn put_refused(room: &mut [u8], at: usize, f: Found, o: Options) -> usize
     ensures { λ r. ⌜ Counts r (now (room .exit)) ⌝ }
 {
     if !is_refused(f, o) {
-        return place_in(room, at);
+        return cursor_in(room, at);
     }
     let a = put_bytes(room, at, b"unfit refused ");
     let b = put_number(room, a, f.refused);
@@ -137,7 +137,7 @@ fn put_old(room: &mut [u8], at: usize, f: Found, o: Options) -> usize
     if is_old(f, o) {
         return put_limit(room, at, b"age", f.age as u64, b"above", o.age as u64);
     }
-    place_in(room, at)
+    cursor_in(room, at)
 }
 
 // The line of the longest gap.
@@ -147,7 +147,7 @@ fn put_torn(room: &mut [u8], at: usize, f: Found, o: Options) -> usize
     if is_torn(f, o) {
         return put_limit(room, at, b"gap", f.gap as u64, b"above", o.gap as u64);
     }
-    place_in(room, at)
+    cursor_in(room, at)
 }
 
 // A line for each limit that does not hold.

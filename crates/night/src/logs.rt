@@ -4,7 +4,7 @@ use crate::options::Options;
 use crate::stream::Stream;
 use crate::stream::filled;
 use crate::stream::least;
-use console::put::place_in;
+use console::put::cursor_in;
 use console::put::put_byte;
 use console::put::put_bytes;
 use console::put::put_detail;
@@ -104,7 +104,7 @@ fn take_piece(
 ) -> Taken {
     let step = log::take_next(ledger, left);
     let v = step.verdict;
-    let n = place_in(left, step.length as usize);
+    let n = cursor_in(left, step.length as usize);
     let epochs = log::epochs::after(e, &left[..n], number_of(v) == 0);
     let good = count_piece(&left[..n], v, o, counts);
     Taken {

@@ -2,7 +2,7 @@
 ghost use Rattle.io.specs.Counts.{Counts};
 use crate::fit::Found;
 use crate::options::Options;
-use console::put::place_in;
+use console::put::cursor_in;
 use console::put::put_byte;
 use console::put::put_bytes;
 use console::put::put_field;
@@ -35,7 +35,7 @@ fn put_times(room: &mut [u8], at: usize, number: u8, times: u64) -> usize
     ensures { λ r. ⌜ Counts r (now (room .exit)) ⌝ }
 {
     if times == 0 {
-        return place_in(room, at);
+        return cursor_in(room, at);
     }
     let a = put_bytes(room, at, b"refusal ");
     let b = put_number(room, a, number as u64);
@@ -50,7 +50,7 @@ fn put_times(room: &mut [u8], at: usize, number: u8, times: u64) -> usize
 fn put_refusals(room: &mut [u8], at: usize, counts: &[u64; 21]) -> usize
     ensures { λ r. ⌜ Counts r (now (room .exit)) ⌝ }
 {
-    let mut n = place_in(room, at);
+    let mut n = cursor_in(room, at);
     let mut i: usize = 1;
     while i < 20 {
         n = put_times(room, n, i as u8, counts[i]);

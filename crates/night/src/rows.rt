@@ -1,7 +1,7 @@
 // The two tables of the report: the rows, and the satellites of the mask that have none.
 ghost use Rattle.io.specs.Counts.{Counts};
 use absent::Why;
-use console::put::place_in;
+use console::put::cursor_in;
 use console::put::put_byte;
 use console::put::put_bytes;
 use console::put::put_metres;
@@ -92,7 +92,7 @@ fn put_slot_row(room: &mut [u8], at: usize, by: u8, ledger: &[u8], issue: u16, s
 {
     let answer = slot_row(ledger, Slot(slot), issue);
     let RowAnswer::Found(r) = answer else {
-        return place_in(room, at);
+        return cursor_in(room, at);
     };
     let orbit = held_orbits::get_orbit(ledger, slot);
     let clock = held_clocks::get_clock(ledger, slot);
@@ -128,7 +128,7 @@ fn put_head_csv(room: &mut [u8], at: usize) -> usize
 fn put_lines(room: &mut [u8], at: usize, by: u8, ledger: &[u8], issues: &[u16; 255]) -> usize
     ensures { λ r. ⌜ Counts r (now (room .exit)) ⌝ }
 {
-    let mut n = place_in(room, at);
+    let mut n = cursor_in(room, at);
     let mut slot: u8 = 0;
     while slot < 255 {
         slot += 1;
@@ -212,7 +212,7 @@ fn put_slot_absent(room: &mut [u8], at: usize, ledger: &[u8], issue: u16, slot: 
     ensures { λ r. ⌜ Counts r (now (room .exit)) ⌝ }
 {
     if !is_absent(ledger, issue, slot) {
-        return place_in(room, at);
+        return cursor_in(room, at);
     }
     let why = absent::why_absent(ledger, Slot(slot), issue);
     let a = put_satellite(room, at, b' ', Slot(slot));

@@ -8,7 +8,7 @@ use Rattle.night.proofs.report.put_refusals.Statement.{statement}
 use Rattle.night.proofs.report.put_refusals.Tie as tie
 use Rattle.night.proofs.report.put_refusals.Reads as reads
 use Rattle.night.proofs.report.put_refusals.Lts as lts
-use Rattle.console.proofs.put.place_in.Reads as place-in-reads
+use Rattle.console.proofs.put.cursor_in.Reads as cursor-in-reads
 use Rattle.night.proofs.report.put_times.Reads as put-times-reads
 
 abbrev Inv-loop : tie.InvT-loop
@@ -17,8 +17,8 @@ Inv-loop room₀ at counts n₀ i₀ room n i = (length room ≡ length room₀)
 abbrev μ-loop : tie.MeasureT-loop
 μ-loop room₀ at counts n₀ i₀ room n i = 20 - i
 
-place-in-requires : tie.Need-place-in-requires Inv-loop μ-loop
-place-in-requires c κs = search needs
+cursor-in-requires : tie.Need-cursor-in-requires Inv-loop μ-loop
+cursor-in-requires c κs = search needs
 
 loop-holds : tie.Need-loop-holds Inv-loop μ-loop
 loop-holds c = search needs
@@ -56,7 +56,7 @@ put-refusals-spec =
     (tie.spec
     Inv-loop
     μ-loop
-    place-in-requires
+    cursor-in-requires
     loop-holds
     cast-put-times
     mul-put-times

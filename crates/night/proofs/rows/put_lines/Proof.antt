@@ -8,7 +8,7 @@ use Rattle.night.proofs.rows.put_lines.Statement.{statement}
 use Rattle.night.proofs.rows.put_lines.Tie as tie
 use Rattle.night.proofs.rows.put_lines.Reads as reads
 use Rattle.night.proofs.rows.put_lines.Lts as lts
-use Rattle.console.proofs.put.place_in.Reads as place-in-reads
+use Rattle.console.proofs.put.cursor_in.Reads as cursor-in-reads
 use Rattle.night.proofs.rows.issue_of.Reads as issue-of-reads
 use Rattle.night.proofs.rows.put_slot_row.Reads as put-slot-row-reads
 
@@ -18,8 +18,8 @@ Inv-loop room₀ at by ledger issues n₀ slot₀ room n slot = (length room ≡
 abbrev μ-loop : tie.MeasureT-loop
 μ-loop room₀ at by ledger issues n₀ slot₀ room n slot = 255 - slot
 
-place-in-requires : tie.Need-place-in-requires Inv-loop μ-loop
-place-in-requires c κs = search needs
+cursor-in-requires : tie.Need-cursor-in-requires Inv-loop μ-loop
+cursor-in-requires c κs = search needs
 
 loop-holds : tie.Need-loop-holds Inv-loop μ-loop
 loop-holds c = search needs
@@ -51,7 +51,7 @@ put-lines-spec =
     (tie.spec
     Inv-loop
     μ-loop
-    place-in-requires
+    cursor-in-requires
     loop-holds
     add-slot
     issue-of-requires
