@@ -27,6 +27,7 @@ use places::needs_mask;
 use places::place_verdict;
 use records::slots::Place;
 use records::slots::Slot;
+use records::slots::slot_named;
 use verdict::Verdict;
 use verdict::number_of;
 
@@ -46,7 +47,7 @@ fn clocks_by_slot(t: &mut [u8], p: ClockPart)
     while j < 23 {
         let k = ks[j];
         let h = held_clock(false, p.epoch, p.ssr, k);
-        held_clocks::put_clock(t, k.slot, h);
+        held_clocks::put_clock(t, slot_named(k.slot), h);
         j += 1;
     }
 }
@@ -63,10 +64,10 @@ fn clocks_by_place(t: &mut [u8], kind: u8, p: ClockPart)
     let mut n = first;
     let mut j: usize = 0;
     while (j < 23) & (j < count) {
-        let slot = held_mask::nth_after(t, Slot(from), Place(n)).0;
+        let slot = held_mask::nth_after(t, Slot(from), Place(n));
         let h = held_clock(true, p.epoch, p.ssr, ks[j]);
-        held_clocks::put_clock(t, slot as u16, h);
-        from = held_mask::resumed(Slot(from), Place(n), Slot(slot)).0;
+        held_clocks::put_clock(t, slot, h);
+        from = held_mask::resumed(Slot(from), Place(n), slot).0;
         n = 1;
         j += 1;
     }
@@ -95,7 +96,7 @@ fn orbits_by_slot(t: &mut [u8], p: OrbitPart)
     while j < 6 {
         let o = os[j];
         let h = held_orbit(p.epoch, p.ssr, o);
-        held_orbits::put_orbit(t, o.slot, h);
+        held_orbits::put_orbit(t, slot_named(o.slot), h);
         j += 1;
     }
 }

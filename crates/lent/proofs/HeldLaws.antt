@@ -3,12 +3,14 @@ use mathlib.Core.Path.{_≡_, refl, sym, ap, _∙_}
 use mathlib.Core.Logic.{_⊎_, inl, inr, ⊎-elim, dite, _≢_}
 use Prim.Native.Nat.{ℕ, suc, _+_, _-_, _*_, _≤_, _<_}
 use mathlib.Core.List.{List, [], _∷_}
+use lib.Dec.{ltb}
 use lib.ListN.{getD, length}
 use lib.Seq.{set-out}
 use native.Mathlib.Nat.{mul-suc, mul-le-mul-left}
 use native.Mathlib.Decide.{ℕ-discrete, decLt}
 use native.Mathlib.Omega.{arith}
 use borrow.Author.Tests.{ne-eqb, lt-ltb, le-ltb}
+use Rattle.bits.specs.Pick.{pick}
 use Rattle.bits.specs.Bytes.{storeAt, rowAt, Kept}
 use Rattle.bits.proofs.TableLaws.{table-set, table-ext, length-table, getD-table}
 use Rattle.bits.proofs.ByteLaws.{row-store, row-kept, kept-same, kept-trans, kept-wide, kept-store}
@@ -25,6 +27,14 @@ pub within : (w i : ℕ) → i < 256 → 0 < i → w * (i - 1) + w ≤ w * 255
 within w i q p =
     let m : w * suc (i - 1) ≤ w * 255 = mul-le-mul-left w (omega arith) in
     omega (arith, mul-suc w (i - 1))
+
+-- keeping for a slot above 255 is keeping for slot 0: neither is kept
+pub put-named : {A : Type 0} (bytes : A → List ℕ) (w : ℕ) (s : List ℕ) (st x : ℕ) (h : A) → putHeld bytes w s st (pick (ltb x 256) x 0) h ≡ putHeld bytes w s st x h
+unfolding putHeld
+put-named bytes w s st x h =
+    dite (decLt x 256)
+    (λ q. let e : pick {A = ℕ} (ltb x 256) x 0 ≡ x = rw (lt-ltb x 256 q) in ap (λ (i : ℕ). putHeld bytes w s st i h) e)
+    (λ q. rw (le-ltb x 256 (omega arith), ne-eqb x 0 (λ e. omega arith)))
 
 module _ {A : Type 0} (of : List ℕ → A) (bytes : A → List ℕ) (w : ℕ) (long : (h : A) → length (bytes h) ≡ w) where
   pub put-none : (s : List ℕ) (st : ℕ) (h : A) → putHeld bytes w s st 0 h ≡ s

@@ -13,7 +13,7 @@ use native.Mathlib.Numerals.{add-one}
 use native.Mathlib.Omega.{arith}
 use borrow.Author.Tests.{eq-eqb, ne-eqb, lt-ltb, le-ltb, ltb-true, ltb-false}
 use Rattle.bits.specs.Pick.{pick}
-use Rattle.records.specs.Slots.{setCount, nthSet}
+use Rattle.records.specs.Slots.{slotNamed, setCount, nthSet}
 use Rattle.records.specs.declared.orbit.Orbit.{Orbit}
 use Rattle.records.specs.declared.clock.Clock.{Clock}
 use Rattle.contents.specs.declared.parts.ClockPart.{ClockPart}
@@ -22,6 +22,7 @@ use Rattle.contents.specs.declared.parts.Contents.{Contents}
 use Rattle.layout.proofs.LayoutLaws.{pick-all}
 use Rattle.frame.proofs.FrameLaws.{skipped}
 use Rattle.lent.specs.Held.{putHelds, putHeld}
+use Rattle.lent.proofs.HeldLaws.{put-named}
 use Rattle.held_clocks.proofs.ClockLaws.{ClocksHeld}
 use Rattle.held_orbits.proofs.OrbitLaws.{OrbitsHeld}
 use Rattle.held_mask.specs.Mask.{HeldMask, heldMask}
@@ -37,9 +38,9 @@ length-mapped X Y f l n e = sym (length-map l f) ∙ e
 -- ---- a walk over records, a turn and its end
 module _ {R A : Type 0} (bytes : A → List ℕ) (w st : ℕ) (f : R → A) (rs : List R) (j : ℕ) (d : R) (s : List ℕ) where
   pub slot-step : (slot : R → ℕ) → j < length rs →
-      putHelds bytes w s st (bySlot slot f (drop j rs)) ≡ putHelds bytes w (putHeld bytes w s st (slot (getD rs j d)) (f (getD rs j d))) st (bySlot slot f (drop (j + 1) rs))
+      putHelds bytes w s st (bySlot slot f (drop j rs)) ≡ putHelds bytes w (putHeld bytes w s st (slotNamed (slot (getD rs j d))) (f (getD rs j d))) st (bySlot slot f (drop (j + 1) rs))
   unfolding putHelds bySlot
-  slot-step slot h = rw (drop-one rs j d h)
+  slot-step slot h = rw (drop-one rs j d h, put-named bytes w s st (slot (getD rs j d)) (f (getD rs j d)))
 
   pub slot-end : (slot : R → ℕ) → length rs ≤ j → putHelds bytes w s st (bySlot slot f (drop j rs)) ≡ s
   unfolding putHelds bySlot

@@ -20,7 +20,7 @@ returns : tie.Need-returns
 returns c =
     let a = c .before .before .before .before .before .args in
     let e = c .before .before .before .clock-place .ensures in
-    c .no-clock .ensures ∙ clock-none (a .t .now) (a .slot) _ e (rw (c .before .before .byte .ensures) at (c .before .if1 .taken))
+    c .no-clock .ensures ∙ clock-none (a .t .now) (a .slot .0) _ e (rw (c .before .before .byte .ensures) at (c .before .if1 .taken))
 
 add-byte : tie.Need-add-byte
 add-byte c = search needs
@@ -64,7 +64,7 @@ returns-2 c =
     let n = c .before .before .before .before .before .before .if1 .left in
     let b = c .before .before .before .before .before .before .before .byte in
     let z : toZ w16 (ofZ w16 (c .zag .result)) ≡ c .zag .result = search needs in
-    rw (z, c .zag .ensures, c .before .two .ensures, c .before .before .byte4 .ensures, c .before .before .before .byte3 .ensures, f .ensures, d .ensures) (clock-some (a .t .now) (a .slot) (p .result) (p .ensures) (rw (b .ensures) at n))
+    rw (z, c .zag .ensures, c .before .two .ensures, c .before .before .byte4 .ensures, c .before .before .before .byte3 .ensures, f .ensures, d .ensures) (clock-some (a .t .now) (a .slot .0) (p .result) (p .ensures) (rw (b .ensures) at n))
 
 pub get-clock-spec : {M : Type 1} → statement M
 get-clock-spec =

@@ -28,7 +28,7 @@ returns : tie.Need-returns
 returns c =
     let a = c .before .before .before .before .before .args in
     let e = c .before .before .before .orbit-place .ensures in
-    c .no-orbit .ensures ∙ orbit-none (a .t .now) (a .slot) _ e (rw (c .before .before .byte .ensures) at (c .before .if1 .taken))
+    c .no-orbit .ensures ∙ orbit-none (a .t .now) (a .slot .0) _ e (rw (c .before .before .byte .ensures) at (c .before .if1 .taken))
 
 add-four : tie.Need-add-four
 add-four c = fits-on _ (small (c .before .before)) (lit< tt)
@@ -125,7 +125,7 @@ returns-2 c =
     (back2 (c3 .before .before) ∙ c3 .before .before .zag2 .ensures ∙ ap zagOf (c6 .two3 .ensures))
     (back3 c3 ∙ c3 .zag3 .ensures ∙ ap zagOf (c3 .before .two4 .ensures))
     (c .held-ura .ensures ∙ ap₂ heldUra (c .before .before .byte4 .ensures) (c .before .four2 .ensures))
-    ∙ orbit-some (a .t .now) (a .slot) (p .result) (p .ensures) (rw (b .ensures) at n)
+    ∙ orbit-some (a .t .now) (a .slot .0) (p .result) (p .ensures) (rw (b .ensures) at n)
 
 pub get-orbit-spec : {M : Type 1} → statement M
 get-orbit-spec =

@@ -60,9 +60,6 @@ array-copy-out-held-clock c = turn (c .before .before .before .loop .j) (c .befo
 held-clock-requires : tie.Need-held-clock-requires Inv-loop μ-loop
 held-clock-requires c κs = search needs
 
-cast-put-clock : tie.Need-cast-put-clock Inv-loop μ-loop
-cast-put-clock c = search needs
-
 put-clock-requires : tie.Need-put-clock-requires Inv-loop μ-loop
 put-clock-requires c κs = search needs
 
@@ -138,7 +135,6 @@ clocks-by-place-spec =
     mul-held-clock
     array-copy-out-held-clock
     held-clock-requires
-    cast-put-clock
     put-clock-requires
     resumed-requires
     add-j
