@@ -17,7 +17,7 @@ use Rattle.lent.proofs.HeldLaws.{put-room, put-view, puts-room, puts-view, Soun
 use Rattle.lent.proofs.DropLaws.{one-room, drop-room, dropped-view}
 use Rattle.lent.proofs.DigitLaws.{pair-back, quad-back, zag-zig, flag-back}
 use Rattle.held_mask.specs.Size.{size}
-use Rattle.held_clocks.specs.Clocks.{clockAt, clockPlace, noClock, clocksKept, clockBytes, clockOf, clocksAt, putClock, putClocks, dropClock, droppedClocks}
+use Rattle.held_clocks.specs.Clocks.{clockAt, clockOffset, noClock, clocksKept, clockBytes, clockOf, clocksAt, putClock, putClocks, dropClock, droppedClocks}
 use Rattle.held_clocks.specs.declared.HeldClock.{HeldClock}
 use Rattle.held_clocks.proofs.ReadLaws.{clock-none}
 
@@ -75,7 +75,7 @@ clocks-kept lo hi s t k o = helds-kept clockOf 12 260 lo hi s t k o
 -- zero bytes, however many, hold no clock
 module _ (s : List ℕ) (zeros : (j : ℕ) → getD s j 0 ≡ 0) where
   pub zero-clock : (slot : ℕ) → clockAt s slot ≡ noClock
-  zero-clock slot = sym (clock-none s slot (clockPlace slot) refl (λ e. omega (arith, zeros (clockPlace slot))))
+  zero-clock slot = sym (clock-none s slot (clockOffset slot) refl (λ e. omega (arith, zeros (clockOffset slot))))
 
   pub zero-clocks : clocksAt s ≡ table (λ (i : ℕ). noClock) 255
   unfolding heldsAt

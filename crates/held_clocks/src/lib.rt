@@ -1,6 +1,6 @@
 // The clocks that a ledger keeps, as lent bytes: docs/FORM.md. Any bytes are such a form; bytes past the end are 0.
 ghost use mathlib.Core.Path.{_≡_};
-ghost use Rattle.held_clocks.specs.Clocks.{noClock, clockBytes, clockPlace, clockAt, putClock, dropClock, droppedClocks};
+ghost use Rattle.held_clocks.specs.Clocks.{noClock, clockBytes, clockOffset, clockAt, putClock, dropClock, droppedClocks};
 use records::slots::Slot;
 
 // A clock as it is kept: its part's epoch and IOD SSR, and whether it came by place. C0 is raw.
@@ -53,8 +53,8 @@ fn clock_bytes(h: HeldClock) -> [u8; 12]
 }
 
 // Where the clock of a slot begins.
-fn clock_place(slot: Slot) -> usize
-    ensures { λ r. ⌜ r ≡ clockPlace (slot .0) ⌝ }
+fn clock_offset(slot: Slot) -> usize
+    ensures { λ r. ⌜ r ≡ clockOffset (slot .0) ⌝ }
 {
     let s = slot.0;
     if s == 0 {
@@ -68,7 +68,7 @@ fn clock_place(slot: Slot) -> usize
 pub fn get_clock(t: &[u8], slot: Slot) -> HeldClock
     ensures { λ r. ⌜ r ≡ clockAt (now (t .entry)) (slot .0) ⌝ }
 {
-    let at = clock_place(slot);
+    let at = clock_offset(slot);
     if lent::byte(t, at) != 1 {
         return no_clock();
     }
@@ -94,7 +94,7 @@ pub fn put_clock(t: &mut [u8], slot: Slot, h: HeldClock)
     if slot.0 == 0 {
         return;
     }
-    let at = clock_place(slot);
+    let at = clock_offset(slot);
     let b = clock_bytes(h);
     lent::store(t, at, &b);
 }

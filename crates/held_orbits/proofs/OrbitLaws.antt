@@ -18,7 +18,7 @@ use Rattle.lent.proofs.DigitLaws.{pair-back, quad-back, zag-zig}
 use Rattle.records.specs.Ura.{quartersIn}
 use Rattle.records.proofs.UraLaws.{kind-back}
 use Rattle.held_mask.specs.Size.{size}
-use Rattle.held_orbits.specs.Orbits.{orbitAt, orbitPlace, noOrbit, orbitBytes, orbitOf, orbitsAt, putOrbit, putOrbits}
+use Rattle.held_orbits.specs.Orbits.{orbitAt, orbitOffset, noOrbit, orbitBytes, orbitOf, orbitsAt, putOrbit, putOrbits}
 use Rattle.held_orbits.specs.declared.HeldOrbit.{HeldOrbit}
 use Rattle.held_orbits.proofs.ReadLaws.{orbit-none}
 
@@ -78,7 +78,7 @@ orbits-kept lo hi s t k o = helds-kept orbitOf 24 3320 lo hi s t k o
 -- zero bytes, however many, hold no orbit
 module _ (s : List ℕ) (zeros : (j : ℕ) → getD s j 0 ≡ 0) where
   pub zero-orbit : (slot : ℕ) → orbitAt s slot ≡ noOrbit
-  zero-orbit slot = sym (orbit-none s slot (orbitPlace slot) refl (λ e. omega (arith, zeros (orbitPlace slot))))
+  zero-orbit slot = sym (orbit-none s slot (orbitOffset slot) refl (λ e. omega (arith, zeros (orbitOffset slot))))
 
   pub zero-orbits : orbitsAt s ≡ table (λ (i : ℕ). noOrbit) 255
   unfolding heldsAt

@@ -18,7 +18,7 @@ use Rattle.lent.specs.Digits.{zagOf, twoAt, fourAt}
 use Rattle.lent.specs.Held.{heldAt}
 use Rattle.records.specs.Ura.{heldUra}
 use Rattle.records.specs.declared.ura.Ura.{Ura}
-use Rattle.held_orbits.specs.Orbits.{noOrbit, orbitPlace, orbitAt}
+use Rattle.held_orbits.specs.Orbits.{noOrbit, orbitOffset, orbitAt}
 use Rattle.held_orbits.specs.declared.HeldOrbit.{HeldOrbit}
 
 -- an orbit made of equal fields
@@ -28,7 +28,7 @@ pub orbit-made : {e e' s s' i i' k k' : ℕ} {r r' a a' c c' : ℤ} {u u' : Ura}
     (record { has = true; epoch = e'; ssr = s'; iodn = i'; corr = k'; radial = r'; along = a'; cross = c'; ura = u' })
 orbit-made e s i k r a c u = rw (e, s, i, k, r, a, c, u)
 
--- a place a little further on
+-- an offset a little further on
 pub fits-on : {at : ℕ} (k : ℕ) → at < 9440 → k < 100 → Fits w64 (at + k)
 fits-on k h l = search needs
 
@@ -37,11 +37,11 @@ plus : (at m n : ℕ) → at + m + n ≡ at + (m + n)
 plus at m n = omega arith
 
 module _ (s : List ℕ) (slot at : ℕ) where
-  pub orbit-none : at ≡ orbitPlace slot → getD s at 0 ≢ 1 → noOrbit ≡ orbitAt s slot
+  pub orbit-none : at ≡ orbitOffset slot → getD s at 0 ≢ 1 → noOrbit ≡ orbitAt s slot
   unfolding heldAt rowAt table
   orbit-none e n = rw (← e, add-zero at, ne-eqb _ _ n)
 
-  pub orbit-some : at ≡ orbitPlace slot → getD s at 0 ≡ 1 →
+  pub orbit-some : at ≡ orbitOffset slot → getD s at 0 ≡ 1 →
       _≡_ {A = HeldOrbit}
       (record {
         has = true;

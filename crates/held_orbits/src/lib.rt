@@ -1,6 +1,6 @@
 // The orbits that a ledger keeps, as lent bytes: docs/FORM.md. Any bytes are such a form; bytes past the end are 0.
 ghost use mathlib.Core.Path.{_≡_};
-ghost use Rattle.held_orbits.specs.Orbits.{noOrbit, orbitBytes, orbitPlace, orbitAt, putOrbit};
+ghost use Rattle.held_orbits.specs.Orbits.{noOrbit, orbitBytes, orbitOffset, orbitAt, putOrbit};
 use records::slots::Slot;
 use records::ura::Ura;
 use records::ura::held_ura;
@@ -81,8 +81,8 @@ fn orbit_bytes(h: HeldOrbit) -> [u8; 24]
 }
 
 // Where the orbit of a slot begins.
-fn orbit_place(slot: Slot) -> usize
-    ensures { λ r. ⌜ r ≡ orbitPlace (slot .0) ⌝ }
+fn orbit_offset(slot: Slot) -> usize
+    ensures { λ r. ⌜ r ≡ orbitOffset (slot .0) ⌝ }
 {
     let s = slot.0;
     if s == 0 {
@@ -96,7 +96,7 @@ fn orbit_place(slot: Slot) -> usize
 pub fn get_orbit(t: &[u8], slot: Slot) -> HeldOrbit
     ensures { λ r. ⌜ r ≡ orbitAt (now (t .entry)) (slot .0) ⌝ }
 {
-    let at = orbit_place(slot);
+    let at = orbit_offset(slot);
     if lent::byte(t, at) != 1 {
         return no_orbit();
     }
@@ -128,7 +128,7 @@ pub fn put_orbit(t: &mut [u8], slot: Slot, h: HeldOrbit)
     if slot.0 == 0 {
         return;
     }
-    let at = orbit_place(slot);
+    let at = orbit_offset(slot);
     let b = orbit_bytes(h);
     lent::store(t, at, &b);
 }

@@ -15,7 +15,7 @@ use Rattle.bits.specs.Bytes.{storeAt, rowAt, Kept}
 use Rattle.bits.proofs.TableLaws.{table-set, table-ext, length-table, getD-table}
 use Rattle.bits.proofs.ByteLaws.{row-store, row-kept, kept-same, kept-trans, kept-wide, kept-store}
 use Rattle.lookback.specs.Store.{Named, put, putAll}
-use Rattle.lent.specs.Held.{place, heldAt, heldsAt, putHeld, putHelds}
+use Rattle.lent.specs.Held.{offset, heldAt, heldsAt, putHeld, putHelds}
 
 -- a slot's record ends where or before a later slot's begins
 ordered : (w j i : ℕ) → 0 < j → j < i → w * (j - 1) + w ≤ w * (i - 1)
@@ -37,15 +37,15 @@ put-named bytes w s st x h =
     (λ q. rw (le-ltb x 256 (omega arith), ne-eqb x 0 (λ e. omega arith)))
 
 module _ {A : Type 0} (of : List ℕ → A) (bytes : A → List ℕ) (w : ℕ) (long : (h : A) → length (bytes h) ≡ w) where
-  pub put-none : (s : List ℕ) (st : ℕ) (h : A) → putHeld bytes w s st 0 h ≡ s
+  pub put-none : (s : List ℕ) (st i : ℕ) (h : A) → i ≡ 0 → putHeld bytes w s st i h ≡ s
   unfolding putHeld
-  put-none s st h = refl
+  put-none s st i h e = rw e
 
   pub put-far : (s : List ℕ) (st i : ℕ) (h : A) → 256 ≤ i → putHeld bytes w s st i h ≡ s
   unfolding putHeld
   put-far s st i h l = rw (ne-eqb i 0 (λ e. omega arith), le-ltb i 256 l)
 
-  pub put-slot : (s : List ℕ) (st i : ℕ) (h : A) → 0 < i → i < 256 → putHeld bytes w s st i h ≡ storeAt s (place w st i) (bytes h)
+  pub put-slot : (s : List ℕ) (st i : ℕ) (h : A) → 0 < i → i < 256 → putHeld bytes w s st i h ≡ storeAt s (offset w st i) (bytes h)
   unfolding putHeld
   put-slot s st i h p q = rw (ne-eqb i 0 (λ e. omega arith), lt-ltb i 256 q)
 
@@ -53,24 +53,24 @@ module _ {A : Type 0} (of : List ℕ → A) (bytes : A → List ℕ) (w : ℕ) (
   pub put-back : (s : List ℕ) (st i : ℕ) (h : A) → st + w * 255 ≤ length s → 0 < i → i < 256 → heldAt of w (putHeld bytes w s st i h) st i ≡ of (bytes h)
   unfolding heldAt
   put-back s st i h fits p q =
-      let e : rowAt (storeAt s (place w st i) (bytes h)) (place w st i) (length (bytes h)) ≡ bytes h = row-store s (place w st i) (bytes h) (omega (arith, long h, within w i q p)) in
+      let e : rowAt (storeAt s (offset w st i) (bytes h)) (offset w st i) (length (bytes h)) ≡ bytes h = row-store s (offset w st i) (bytes h) (omega (arith, long h, within w i q p)) in
       rw (put-slot s st i h p q) (ap of (rw (long h) at e))
 
   -- only its bytes change
-  pub put-kept : (s : List ℕ) (st i : ℕ) (h : A) → Kept (place w st i) (place w st i + w) s (putHeld bytes w s st i h)
+  pub put-kept : (s : List ℕ) (st i : ℕ) (h : A) → Kept (offset w st i) (offset w st i + w) s (putHeld bytes w s st i h)
   put-kept s st i h =
       dite (ℕ-discrete i 0)
-      (λ e. rw (e, put-none s st h) (kept-same _ _ s))
+      (λ e. rw (put-none s st i h e) (kept-same _ _ s))
       (λ n.
       dite (decLt i 256)
-      (λ q. rw (put-slot s st i h (omega arith) q) (kept-store _ _ s (place w st i) (bytes h) (omega arith) (omega (arith, long h))))
+      (λ q. rw (put-slot s st i h (omega arith) q) (kept-store _ _ s (offset w st i) (bytes h) (omega arith) (omega (arith, long h))))
       (λ q. rw (put-far s st i h (omega arith)) (kept-same _ _ s)))
 
   -- every byte outside the records' room is as it was
   pub put-room : (s : List ℕ) (st i : ℕ) (h : A) → Kept st (st + w * 255) s (putHeld bytes w s st i h)
   put-room s st i h =
       dite (ℕ-discrete i 0)
-      (λ e. rw (e, put-none s st h) (kept-same _ _ s))
+      (λ e. rw (put-none s st i h e) (kept-same _ _ s))
       (λ n.
       dite (decLt i 256)
       (λ q. kept-wide st (st + w * 255) (put-kept s st i h) (omega arith) (omega (arith, within w i q (omega arith))))
@@ -80,7 +80,7 @@ module _ {A : Type 0} (of : List ℕ → A) (bytes : A → List ℕ) (w : ℕ) (
   pub put-other : (s : List ℕ) (st i j : ℕ) (h : A) → 0 < i → 0 < j → j ≢ i → heldAt of w (putHeld bytes w s st i h) st j ≡ heldAt of w s st j
   unfolding heldAt
   put-other s st i j h p q n =
-      ap of (row-kept (place w st j) w (put-kept s st i h)
+      ap of (row-kept (offset w st j) w (put-kept s st i h)
       (dite (decLt j i) (λ l. inl (omega (arith, ordered w j i q l))) (λ l. inr (omega (arith, ordered w i j p (omega arith))))))
 
   -- THE LAW: a record put into the bytes is an element set in the list that they say
@@ -88,7 +88,7 @@ module _ {A : Type 0} (of : List ℕ → A) (bytes : A → List ℕ) (w : ℕ) (
   unfolding heldsAt
   put-view s st i h fits =
       dite (ℕ-discrete i 0)
-      (λ e. rw (e, put-none s st h))
+      (λ e. rw (put-none s st i h e, e))
       (λ n.
       dite (decLt i 256)
       (λ q.
@@ -122,7 +122,7 @@ pub helds-kept : {A : Type 0} (of : List ℕ → A) (w st lo hi : ℕ) (s t : Li
 unfolding heldsAt heldAt
 helds-kept of w st lo hi s t k o =
     table-ext _ _ 255 (λ i l.
-    ap of (row-kept (place w st (i + 1)) w k (⊎-elim (λ g. inl (omega (arith, within w (i + 1) (omega arith) (omega arith)))) (λ g. inr (omega arith)) o)))
+    ap of (row-kept (offset w st (i + 1)) w k (⊎-elim (λ g. inl (omega (arith, within w (i + 1) (omega arith) (omega arith)))) (λ g. inr (omega arith)) o)))
 
 pub getD-helds : {A : Type 0} (of : List ℕ → A) (w : ℕ) (s : List ℕ) (st i : ℕ) (d : A) → i < 255 → getD (heldsAt of w s st) i d ≡ heldAt of w s st (i + 1)
 unfolding heldsAt

@@ -61,7 +61,7 @@ module _ (s : List ℕ) (g n : ℕ) (above : 0 < g) (within : g ≤ n) where
       → (firstFrom s g (n - g) ≡ firstFrom s (g - 1) (n - (g - 1))) × (failingFrom s g (n - g) ≡ failingFrom s (g - 1) (n - (g - 1)))
   down-passes f = (sym (rw f at first-down), sym (rw (f, add-zero) at failing-down))
 
--- factor times symbol, at place k of a group
+-- factor times symbol, at entry k of a group
 abbrev pub term : List ℕ → List ℕ → List ℕ → ℕ → ℕ
 term s p f k = product (getD f k 0) (symbolOf s (getD p k 0))
 

@@ -1,4 +1,4 @@
--- Slot 0 is none; any other slot's bytes are stored at its place.
+-- Slot 0 is none; any other slot's bytes are stored at its offset.
 use borrow.Author.Needs.{needs}
 use native.Mathlib.Omega.{arith}
 use mathlib.Core.Path.{sym}
@@ -9,12 +9,10 @@ use Rattle.held_orbits.proofs.put_orbit.Statement.{statement}
 use Rattle.held_orbits.proofs.put_orbit.Tie as tie
 
 returns : tie.Need-returns
-returns c =
-    let a = c .before .before .before .args in
-    rw (c .if1 .taken) (sym (put-none orbitOf orbitBytes 24 orbit-long (a .t .now) 3320 (a .h)))
+returns c = sym (put-none orbitOf orbitBytes 24 orbit-long _ 3320 _ _ (omega arith))
 
-orbit-place-requires : tie.Need-orbit-place-requires
-orbit-place-requires c κs = search needs
+orbit-offset-requires : tie.Need-orbit-offset-requires
+orbit-offset-requires c κs = search needs
 
 orbit-bytes-requires : tie.Need-orbit-bytes-requires
 orbit-bytes-requires c κs = search needs
@@ -32,14 +30,14 @@ returns-2 : tie.Need-returns-2
 returns-2 c =
     let c6 = c .before .before .before .before .before .before in
     let a = c6 .before .before .before .before .args in
-    rw (c .before .before .store .ensures, c6 .orbit-place .ensures, c .before .before .before .before .before .orbit-bytes .ensures) (sym (put-slot orbitOf orbitBytes 24 orbit-long (a .t .now) 3320 (a .slot .0) (a .h) (omega arith) (omega arith)))
+    rw (c .before .before .store .ensures, c6 .orbit-offset .ensures, c .before .before .before .before .before .orbit-bytes .ensures) (sym (put-slot orbitOf orbitBytes 24 orbit-long (a .t .now) 3320 (a .slot .0) (a .h) (omega arith) (omega arith)))
 
 pub put-orbit-spec : {M : Type 1} → statement M
 put-orbit-spec =
     tie.close
     (tie.spec
     returns
-    orbit-place-requires
+    orbit-offset-requires
     orbit-bytes-requires
     slice-aggregate-store
     store-requires
