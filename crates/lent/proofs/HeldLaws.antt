@@ -2,6 +2,7 @@
 use mathlib.Core.Path.{_≡_, refl, sym, ap, _∙_}
 use mathlib.Core.Logic.{_⊎_, inl, inr, ⊎-elim, dite, _≢_}
 use Prim.Native.Nat.{ℕ, suc, _+_, _-_, _*_, _≤_, _<_}
+use mathlib.Core.Bool.{Bool, true}
 use mathlib.Core.List.{List, [], _∷_}
 use lib.Dec.{ltb}
 use lib.ListN.{getD, length}
@@ -35,6 +36,11 @@ put-named bytes w s st x h =
     dite (decLt x 256)
     (λ q. let e : pick {A = ℕ} (ltb x 256) x 0 ≡ x = rw (lt-ltb x 256 q) in ap (λ (i : ℕ). putHeld bytes w s st i h) e)
     (λ q. rw (le-ltb x 256 (omega arith), ne-eqb x 0 (λ e. omega arith)))
+
+-- every record that is named is a held one
+abbrev pub AllHeld : {A : Type 0} → (A → Bool) → List (Named A) → Type 0
+AllHeld has [] = Unit {0}
+AllHeld has (n ∷ ns) = (has (n .held) ≡ true) × AllHeld has ns
 
 module _ {A : Type 0} (of : List ℕ → A) (bytes : A → List ℕ) (w : ℕ) (long : (h : A) → length (bytes h) ≡ w) where
   pub put-none : (s : List ℕ) (st i : ℕ) (h : A) → i ≡ 0 → putHeld bytes w s st i h ≡ s
@@ -103,6 +109,11 @@ module _ {A : Type 0} (of : List ℕ → A) (bytes : A → List ℕ) (w : ℕ) (
   abbrev pub Sound : List (Named A) → Type 0
   Sound [] = Unit {0}
   Sound (n ∷ ns) = (of (bytes (n .held)) ≡ n .held) × Sound ns
+
+  -- held ones are, where each that is held is
+  pub held-sound : (has : A → Bool) → ((h : A) → has h ≡ true → of (bytes h) ≡ h) → (ns : List (Named A)) → AllHeld has ns → Sound ns
+  held-sound has back [] a = tt
+  held-sound has back (n ∷ ns) a = (back (n .held) (a .0), held-sound has back ns (a .1))
 
   pub puts-room : (s : List ℕ) (st : ℕ) (ns : List (Named A)) → Kept st (st + w * 255) s (putHelds bytes w s st ns)
   unfolding putHelds
