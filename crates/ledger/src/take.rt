@@ -58,17 +58,16 @@ fn clocks_by_place(t: &mut [u8], kind: u8, p: ClockPart)
     ensures { λ r. ⌜ now (t .exit) ≡ putClocks (now (t .entry)) (clocksOf (maskAt (now (t .entry))) kind p) ⌝ }
 {
     let ks = p.clocks;
-    let first = first_place(kind, p) as u16;
     let count = p.count as usize;
-    let mut from: u8 = 0;
-    let mut n = first;
+    let mut from = Slot(0);
+    let mut n = first_place(kind, p);
     let mut j: usize = 0;
     while (j < 23) & (j < count) {
-        let slot = held_mask::nth_after(t, Slot(from), Place(n));
+        let slot = held_mask::nth_after(t, from, n);
         let h = held_clock(true, p.epoch, p.ssr, ks[j]);
         held_clocks::put_clock(t, slot, h);
-        from = held_mask::resumed(Slot(from), Place(n), slot).0;
-        n = 1;
+        from = held_mask::resumed(from, n, slot);
+        n = Place(1);
         j += 1;
     }
 }
