@@ -10,7 +10,7 @@ use native.Mathlib.Omega.{arith}
 use borrow.Author.Tests.{le-leb, lt-leb}
 use Rattle.bits.specs.Bits.{bitAt, fieldAt, gotAt}
 
--- a bit by the byte and the place within it, where the offset is taken apart first
+-- a bit by the byte and the offset within it, where the offset is taken apart first
 pub bit-split : (s : List ℕ) (at k : ℕ) → bitAt s (at + k) ≡ getD s (at / 8 + (at % 8 + k) / 8) 0 / 2 ^ (7 - (at % 8 + k) % 8) % 2
 unfolding bitAt
 bit-split s at k =

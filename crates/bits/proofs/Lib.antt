@@ -10,3 +10,4 @@ pub mod Below
 pub mod SomeLaws
 pub mod ByteLaws
 pub mod WindowLaws
+pub mod TestLaws

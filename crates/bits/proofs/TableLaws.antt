@@ -12,6 +12,10 @@ use native.Mathlib.Omega.{arith}
 use Rattle.bits.specs.Table.{table}
 
 module _ {A : Type 0} where
+  -- what is left from entry i on is that entry, and what is left from the next on
+  pub drop-one : (l : List A) (i : ℕ) (d : A) → i < length l → drop i l ≡ getD l i d ∷ drop (i + 1) l
+  drop-one l i d h = rw (add-one, drop-cons l i d)
+
   pub length-table : (f : ℕ → A) (n : ℕ) → length (table f n) ≡ n
   unfolding table
   length-table f zero = refl

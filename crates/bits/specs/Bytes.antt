@@ -1,4 +1,4 @@
--- Bytes stored into a room at a place; what is kept; a row of bytes read.
+-- Bytes stored into a room at an offset; what is kept; a row of bytes read.
 use mathlib.Core.Path.{_≡_}
 use mathlib.Core.Logic.{_⊎_}
 use Prim.Native.Nat.{ℕ, _+_, _≤_, _<_}

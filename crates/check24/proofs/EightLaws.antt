@@ -87,7 +87,7 @@ join f b k h =
     regroup : (f b p : ℕ) → f * (p * 2) + b * p ≡ (2 * f + b) * p
     regroup f b p = omega (arith, mul-assoc 2 f p, mul-assoc f p 2, add-mul (2 * f) b p)
 
--- a bit that is added to the top after n bits is one that was added n places lower before them
+-- a bit that is added to the top after n bits is one that was added n bits lower before them
 late : (b n k : ℕ) → b < 2 → suc n + k ≡ 24 → b * 2 ^ 23 ≡ shifted n (b * 2 ^ k)
 late b n k h e =
     let f : k + n ≡ 23 = omega arith in

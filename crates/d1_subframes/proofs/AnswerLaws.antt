@@ -12,6 +12,7 @@ use lib.Seq.{ext-getD}
 use borrow.Author.Tests.{eqb-true, not-false, eq-eqb, ne-eqb, lt-ltb, le-ltb}
 use Rattle.bits.specs.Bits.{fieldAt}
 use Rattle.bits.specs.Bytes.{storeAt}
+use Rattle.bits.proofs.TestLaws.{none-holds}
 use Rattle.bits.proofs.ByteLaws.{length-store, store-in}
 use Rattle.d1_subframes.specs.Subframe.{dataOf, preambleOf, frameOf, secondOf, refusalOf, readUnfit, writeUnfit, readRefusal, writeRefusal}
 
@@ -62,22 +63,17 @@ pub write-judged : (room d : List ℕ) → writeUnfit room d ≡ false → write
 unfolding writeRefusal
 write-judged room d e = ap (λ (t : Bool). refusalOf t d) e
 
--- neither of two tests
-neither : (a b : Bool) → a || b ≡ false → (a ≡ false) × (b ≡ false)
-neither true b e = absurd (subst T e tt)
-neither false b e = (refl, e)
-
 same : (a b : ℕ) → not (eqb a b) ≡ false → a ≡ b
 same a b e = eqb-true a b (not-false (eqb a b) e)
 
 -- what fits has both lengths, and four closing bits of zero
 pub read-fits : (room s : List ℕ) → readUnfit room s ≡ false → (length s ≡ 38) × (length room ≡ 28) × (fieldAt s 300 4 ≡ 0)
 read-fits room s e =
-    let p = neither (not (eqb (length s) 38) || not (eqb (length room) 28)) (not (eqb (fieldAt s 300 4) 0)) e in
-    let q = neither (not (eqb (length s) 38)) (not (eqb (length room) 28)) (p .0) in
+    let p = none-holds (not (eqb (length s) 38) || not (eqb (length room) 28)) (not (eqb (fieldAt s 300 4) 0)) e in
+    let q = none-holds (not (eqb (length s) 38)) (not (eqb (length room) 28)) (p .0) in
     (same (length s) 38 (q .0), same (length room) 28 (q .1), same (fieldAt s 300 4) 0 (p .1))
 
 pub write-fits : (room d : List ℕ) → writeUnfit room d ≡ false → (length d ≡ 28) × (length room ≡ 38)
 write-fits room d e =
-    let q = neither (not (eqb (length d) 28)) (not (eqb (length room) 38)) e in
+    let q = none-holds (not (eqb (length d) 28)) (not (eqb (length room) 38)) e in
     (same (length d) 28 (q .0), same (length room) 38 (q .1))

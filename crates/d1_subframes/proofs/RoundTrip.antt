@@ -19,7 +19,7 @@ use Rattle.d1_words.specs.Over.{overBits}
 use Rattle.d1_words.specs.Code.{flip}
 use Rattle.d1_words.specs.Word.{spread, interleaved, writtenWord, readWord, writtenFirst, readFirst}
 use Rattle.d1_words.proofs.WordLaws.{read-flipped, first-flipped, written-lt, written-first-lt}
-use Rattle.d1_subframes.specs.Subframe.{wordWidths, infoWidths, widthOf, placeOf, infoOf, sentOf, infosOf, sentsOf, dataOf, subframeOf}
+use Rattle.d1_subframes.specs.Subframe.{wordWidths, infoWidths, widthOf, offsetOf, infoOf, sentOf, infosOf, sentsOf, dataOf, subframeOf}
 use Rattle.d1_subframes.specs.Subframe.{refusalOf, readRefusal, writeRefusal, writeUnfit, readInto, noise, Received, Bytes}
 use Rattle.d1_subframes.proofs.LoopLaws.{length-words, word-width, length-sentsOf, sent-nth, length-subframe}
 use Rattle.d1_subframes.proofs.AnswerLaws.{read-judged, write-unfit, write-judged, write-fits}
@@ -48,7 +48,7 @@ words-row : (s : List ℕ) → fieldsAt s 0 wordWidths ≡ table (λ (i : ℕ). 
 unfolding wordWidths table
 words-row s = refl
 
-infos-row : (d : List ℕ) → table (λ (i : ℕ). fieldAt d (placeOf i) (widthOf i)) 10 ≡ fieldsAt d 0 infoWidths
+infos-row : (d : List ℕ) → table (λ (i : ℕ). fieldAt d (offsetOf i) (widthOf i)) 10 ≡ fieldsAt d 0 infoWidths
 unfolding infoWidths table
 infos-row d = refl
 
@@ -61,7 +61,7 @@ unfolding infoWidths
 total-infos = refl
 
 -- word i of what is written
-pub word-sent : (d : List ℕ) (i : ℕ) → i < 10 → fieldAt (subframeOf d) (30 * i) 30 ≡ sentOf i (fieldAt d (placeOf i) (widthOf i))
+pub word-sent : (d : List ℕ) (i : ℕ) → i < 10 → fieldAt (subframeOf d) (30 * i) 30 ≡ sentOf i (fieldAt d (offsetOf i) (widthOf i))
 unfolding subframeOf
 word-sent d i h =
     let s = putsAt (replicate 38 0) 0 wordWidths (sentsOf d) in
@@ -76,9 +76,9 @@ pub data-back : (d s : List ℕ) (j k : ℕ → ℕ) → Bytes d → length d �
 unfolding dataOf infosOf
 data-back d s j k b l r =
     let e : infosOf s ≡ fieldsAt d 0 infoWidths =
-    table-ext (λ (i : ℕ). infoOf i (fieldAt s (30 * i) 30)) (λ (i : ℕ). fieldAt d (placeOf i) (widthOf i)) 10
+    table-ext (λ (i : ℕ). infoOf i (fieldAt s (30 * i) 30)) (λ (i : ℕ). fieldAt d (offsetOf i) (widthOf i)) 10
     (λ i h. ap (infoOf i) (r i h ∙ ap (λ (x : ℕ). bitXor x (noise i (j i) (k i))) (word-sent d i h))
-    ∙ info-back i (fieldAt d (placeOf i) (widthOf i)) (j i) (k i) (field-lt d (placeOf i) (widthOf i)))
+    ∙ info-back i (fieldAt d (offsetOf i) (widthOf i)) (j i) (k i) (field-lt d (offsetOf i) (widthOf i)))
     ∙ infos-row d in
     ap (putsAt (replicate 28 0) 0 infoWidths) e
     ∙ row-back (replicate 28 0) d infoWidths (zero-bytes 28) b (sym l) (omega (arith, total-infos))

@@ -26,8 +26,8 @@ abbrev pub widthOf : ℕ → ℕ
 widthOf i = pick (eqb i 0) 26 22
 
 -- 003, section 5.2.2: where they begin among the 224
-abbrev pub placeOf : ℕ → ℕ
-placeOf i = pick (eqb i 0) 0 (4 + 22 * i)
+abbrev pub offsetOf : ℕ → ℕ
+offsetOf i = pick (eqb i 0) 0 (4 + 22 * i)
 
 -- 003, sections 5.1.3 and 5.2.2: the information bits of word i as it is read
 abbrev pub infoOf : ℕ → ℕ → ℕ
@@ -43,7 +43,7 @@ infosOf s = table (λ (i : ℕ). infoOf i (fieldAt s (30 * i) 30)) 10
 
 -- each word of a subframe whose information bits are those of d
 unfoldable pub sentsOf : List ℕ → List ℕ
-sentsOf d = table (λ (i : ℕ). sentOf i (fieldAt d (placeOf i) (widthOf i))) 10
+sentsOf d = table (λ (i : ℕ). sentOf i (fieldAt d (offsetOf i) (widthOf i))) 10
 
 -- 02, CR 4: the 28 bytes of a subframe's 224 information bits
 unfoldable pub dataOf : List ℕ → List ℕ

@@ -4,7 +4,7 @@ ghost use mathlib.Core.Bool.{false};
 ghost use Prim.Native.Nat.{_*_, _<_};
 ghost use Rattle.bits.specs.Bits.{fieldAt};
 ghost use Rattle.verdict.specs.Verdict.{says, refusedBy};
-ghost use Rattle.d1_subframes.specs.Subframe.{widthOf, placeOf, infoOf, sentOf, dataOf, subframeOf};
+ghost use Rattle.d1_subframes.specs.Subframe.{widthOf, offsetOf, infoOf, sentOf, dataOf, subframeOf};
 ghost use Rattle.d1_subframes.specs.Subframe.{refusalOf, readRefusal, writeRefusal, readInto, writtenInto};
 use verdict::Verdict;
 
@@ -16,9 +16,9 @@ fn width_of(i: usize) -> u8
 }
 
 // Where they begin among all of them.
-fn place_of(i: usize) -> usize
+fn offset_of(i: usize) -> usize
     requires { ⌜ i < 10 ⌝ }
-    ensures { λ r. ⌜ r ≡ placeOf i ⌝ }
+    ensures { λ r. ⌜ r ≡ offsetOf i ⌝ }
 {
     if i == 0 { 0 } else { 4 + 22 * i }
 }
@@ -39,7 +39,7 @@ fn info_at(s: &[u8], i: usize) -> u32
 // Word i of a subframe with the given information bits.
 fn sent_at(d: &[u8], i: usize) -> u32
     requires { ⌜ i < 10 ⌝ }
-    ensures { λ r. ⌜ r ≡ sentOf i (fieldAt (now (d .entry)) (placeOf i) (widthOf i)) ⌝ }
+    ensures { λ r. ⌜ r ≡ sentOf i (fieldAt (now (d .entry)) (offsetOf i) (widthOf i)) ⌝ }
 {
     if i == 0 {
         d1_words::write_first(bits::get32(d, 0, 26))
@@ -56,7 +56,7 @@ fn data_of(s: &[u8]) -> [u8; 28]
     let mut i: usize = 0;
     while i < 10 {
         let v = info_at(s, i);
-        bits::put(&mut out, place_of(i), width_of(i), v as u64);
+        bits::put(&mut out, offset_of(i), width_of(i), v as u64);
         i += 1;
     }
     out

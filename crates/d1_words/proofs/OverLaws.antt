@@ -49,7 +49,7 @@ closer-lt (suc n) w = let h : overBits 2 closer n (w / 2 ^ 2) < 2 ^ n = closer-l
 pub closer-room : (n w : ℕ) → n ≤ 15 → overBits 2 closer n w < 2 ^ 15
 closer-room n w h = omega (arith, closer-lt n w, pow-mono {i = n} {j = 15} h)
 
--- n bits in every second place make a third of 2 ^ 2n at most
+-- n bits at every second offset make a third of 2 ^ 2n at most
 pub wider-lt : (n w : ℕ) → 3 * overBits 1 wider n w < 2 ^ (2 * n)
 unfolding overBits
 wider-lt zero w = lit< tt

@@ -12,11 +12,11 @@ use Rattle.d1_words.specs.Word.{wider, closer, spread, everyOther, inter
 use Rattle.d1_words.proofs.OverLaws.{closer-xor, spread-lt}
 use Rattle.d1_words.proofs.CodeLaws.{code-lt, flip-lt, correct-flip, correct-lt}
 
--- n low bits in every second place, two numbers side by side
+-- n low bits at every second offset, two numbers side by side
 abbrev pair : ℕ → ℕ → ℕ → ℕ
 pair n a b = overBits 1 wider n a * 2 + overBits 1 wider n b
 
--- the lower of every two places
+-- the lower of every two offsets
 pub apart-low : (n a b : ℕ) → overBits 2 closer n (pair n a b) ≡ b % 2 ^ n
 unfolding overBits
 apart-low zero a b = sym (mod-one b)

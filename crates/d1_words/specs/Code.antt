@@ -20,7 +20,7 @@ shifted r b = bitXor (timesX 3 generator r) b
 unfoldable pub remainderOf : ℕ → ℕ
 remainderOf w = overBits 1 shifted 15 w
 
--- 003, section 5.1.3, figure 5-2: eleven bits, then what the division of them by the generator, four places up, leaves; bits above them are ignored
+-- 003, section 5.1.3, figure 5-2: eleven bits, then what the division of them by the generator, four bits up, leaves; bits above them are ignored
 unfoldable pub codeWord : ℕ → ℕ
 codeWord d = d % 2048 * 16 + remainderOf (d % 2048 * 16)
 

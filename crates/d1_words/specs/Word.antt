@@ -3,7 +3,7 @@ use Prim.Native.Nat.{ℕ, _+_, _*_, _/_, _%_}
 use Rattle.d1_words.specs.Over.{overBits}
 use Rattle.d1_words.specs.Code.{codeWord, corrected}
 
--- a bit at the low end of every second place
+-- a bit at the low end of every second offset
 abbrev pub wider : ℕ → ℕ → ℕ
 wider r b = r * 4 + b
 
@@ -11,7 +11,7 @@ wider r b = r * 4 + b
 abbrev pub closer : ℕ → ℕ → ℕ
 closer r b = r * 2 + b
 
--- the 15 low bits of a, each in the lower of two places
+-- the 15 low bits of a, each at the lower of two offsets
 unfoldable pub spread : ℕ → ℕ
 spread a = overBits 1 wider 15 a
 

@@ -75,7 +75,7 @@ pub fn bch_correct(word: u16) -> u16
     (word ^ m) / 16 % 2048
 }
 
-// The 15 low bits of a number, each in the lower of two places.
+// The 15 low bits of a number, each at the lower of two offsets.
 fn apart(a: u16) -> u32
     ensures { λ r. ⌜ r ≡ spread a ⌝ }
 {

@@ -14,14 +14,12 @@ use Rattle.contents.specs.declared.parts.ClockPart.{ClockPart}
 use Rattle.contents.specs.declared.parts.OrbitPart.{OrbitPart}
 use Rattle.contents.specs.declared.parts.Contents.{Contents}
 use Rattle.list.specs.declared.row.Row.{Row}
-use Rattle.flat_forms.specs.Write.{flagsOf, clockRow, orbitRow, rowsTo, maskHead, clockHead, orbitHead, maskBytes, clocksBytes, orbitsBytes, contentsBytes, rowList, rowBytes}
+use Rattle.lent.specs.Digits.{flagsOf}
+use Rattle.lent.proofs.DigitLaws.{length-flags}
+use Rattle.flat_forms.specs.Write.{clockRow, orbitRow, rowsTo, maskHead, clockHead, orbitHead, maskBytes, clocksBytes, orbitsBytes, contentsBytes, rowList, rowBytes}
 use Rattle.flat_forms.proofs.StoreLaws.{store-two, store-whole, length-rows}
 
 -- ---- lengths
-pub length-flags : (bits : List Bool) → length (flagsOf bits) ≡ 255
-unfolding flagsOf
-length-flags bits = length-table _ 255
-
 pub length-clocks : (ks : List Clock) (n : ℕ) → length (rowsTo (clockRow ks) n) ≡ 5 * n
 length-clocks ks n = length-rows (clockRow ks) 5 (λ i. refl) n
 

@@ -1,4 +1,3 @@
 pub mod StoreLaws
-pub mod SignLaws
 pub mod FlatLaws
 mod ByteLaws

@@ -5,7 +5,7 @@ use mathlib.Core.List.{List, [], _∷_, _++_}
 use lib.IntN.{ℤ}
 use lib.ListN.{getD}
 use Rattle.bits.specs.Table.{table}
-use Rattle.lent.specs.Digits.{flagOf}
+use Rattle.lent.specs.Digits.{flagsOf}
 use Rattle.records.specs.Signed.{rawHalf}
 use Rattle.records.specs.Orbit.{blankOrbit}
 use Rattle.records.specs.Clock.{blankClock}
@@ -32,10 +32,6 @@ long z = rawHalf 2147483648 z
 unfoldable pub rowsTo : (ℕ → List ℕ) → ℕ → List ℕ
 rowsTo f zero = []
 rowsTo f (suc n) = rowsTo f n ++ f n
-
--- the flags of slots 1 to 255: 1 if set, else 0
-unfoldable pub flagsOf : List Bool → List ℕ
-flagsOf bits = table (λ (i : ℕ). flagOf (getD bits i false)) 255
 
 -- clock record: slot (2), IOD Corr (1), C0 (2)
 abbrev pub clockBytes : Clock → List ℕ

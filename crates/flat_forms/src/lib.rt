@@ -4,7 +4,7 @@ ghost use Prim.Native.Nat.{_<_};
 ghost use lib.ListN.{getD};
 ghost use Rattle.bits.specs.Bytes.{storeAt};
 ghost use Rattle.records.specs.Signed.{rawHalf};
-ghost use Rattle.flat_forms.specs.Write.{flagsOf, clockBytes, clockRow, orbitBytes, orbitRow, rowsTo, maskHead, clockHead, orbitHead, maskBytes, clocksBytes, orbitsBytes, contentsBytes, systemOf, rowBytes};
+ghost use Rattle.flat_forms.specs.Write.{clockBytes, clockRow, orbitBytes, orbitRow, rowsTo, maskHead, clockHead, orbitHead, maskBytes, clocksBytes, orbitsBytes, contentsBytes, systemOf, rowBytes};
 use contents::parts::ClockPart;
 use contents::parts::Contents;
 use contents::parts::MaskPart;
@@ -53,19 +53,6 @@ fn system_number(s: System) -> u8
         System::Galileo => 3,
         System::Glonass => 4,
     }
-}
-
-// The flags as bytes.
-fn flags_of(bits: [bool; 255]) -> [u8; 255]
-    ensures { λ r. ⌜ r ≡ flagsOf bits ⌝ }
-{
-    let mut out = [0u8; 255];
-    let mut i: usize = 0;
-    while i < 255 {
-        out[i] = lent::flag(bits[i]);
-        i += 1;
-    }
-    out
 }
 
 // The bytes of a clock record.
@@ -212,7 +199,7 @@ fn put_mask_part(room: &mut [u8], kind: u8, m: MaskPart)
 {
     let head = mask_head(kind, m.epoch, m.ssr, m.iodp);
     let bits = m.bits;
-    let flags = flags_of(bits);
+    let flags = lent::flags_of(bits);
     lent::store(room, 0, &head);
     lent::store(room, 7, &flags);
 }

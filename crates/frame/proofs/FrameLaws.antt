@@ -44,11 +44,6 @@ leading a b n = rw (ne-eqb a 0 n)
 pub second : (a b : ℕ) → a ≡ 0 → first ((a, not (eqb a 0)) ∷ (b, not (eqb b 0)) ∷ []) ≡ b
 second a b e = dite (ℕ-discrete b 0) (λ q. rw (eq-eqb a 0 e, eq-eqb b 0 q) (sym q)) (λ q. rw (eq-eqb a 0 e, ne-eqb b 0 q))
 
--- neither of two tests holds
-pub no-test : (a b : Bool) → a || b ≡ false → (a ≡ false) × (b ≡ false)
-no-test true b e = (e, absurd (let z : _≡_ {A = ℕ} 0 1 = cc in omega arith))
-no-test false b e = (refl, e)
-
 -- ---- a frame that is not refused: neither its shell is, nor its contents
 pub parts-zero : (foreign : Bool) (f : List ℕ) → refusalWith foreign f ≡ 0 → (shellRefusal foreign f ≡ 0) × (refusalOf (contentsOf f) ≡ 0)
 unfolding refusalWith

@@ -12,7 +12,8 @@ use native.Mathlib.Nat.{not-suc-le-zero, eq-or-lt-of-le, le-of-suc-le-suc, mul-l
 use native.Mathlib.Omega.{arith}
 use Rattle.records.proofs.UraLaws.{kind-back}
 use Rattle.bits.proofs.TableLaws.{getD-table, table-ext, table-same}
-use Rattle.lent.specs.Digits.{flagOf}
+use Rattle.lent.specs.Digits.{flagOf, flagsOf}
+use Rattle.lent.proofs.DigitLaws.{flag-back}
 use Rattle.lent.proofs.DigitLaws.{pair-back, quad-back}
 use Rattle.records.specs.Orbit.{blankOrbit}
 use Rattle.records.specs.Clock.{blankClock}
@@ -24,7 +25,7 @@ use Rattle.records.specs.declared.clock.Clock.{Clock}
 use Rattle.contents.specs.declared.parts.Contents.{Contents}
 use Rattle.records.specs.Ura.{kindOf, quartersIn, heldUra}
 use Rattle.from_flat.specs.Read.{flagAt, flagsAt, clockNth, clocksAt, orbitNth, orbitsAt, maskIn, clocksIn, orbitsIn, contentsOf}
-use Rattle.flat_forms.specs.Write.{word, flagsOf, clockRow, orbitRow, rowsTo, maskHead, clockHead, orbitHead, maskBytes, clocksBytes, orbitsBytes, contentsBytes}
+use Rattle.flat_forms.specs.Write.{word, clockRow, orbitRow, rowsTo, maskHead, clockHead, orbitHead, maskBytes, clocksBytes, orbitsBytes, contentsBytes}
 use Rattle.flat_forms.proofs.StoreLaws.{length-rows}
 use Rattle.flat_forms.proofs.FlatLaws.{mask-long, clocks-long}
 
@@ -44,10 +45,6 @@ module _ (f : ℕ → List ℕ) (w : ℕ) (long : (i : ℕ) → length (f i) ≡
       let m : w * suc i ≤ w * n = mul-le-mul-left w b in
       List·getD-append (rowsTo f n) (f n) 0 (w * i + k) (omega (arith, length-rows f w long n, mul-suc w i)) ∙ row-at n i k b l)
       (eq-or-lt-of-le (le-of-suc-le-suc h))
-
-flag-back : (b : Bool) → eqb (flagOf b) 1 ≡ b
-flag-back true = refl
-flag-back false = refl
 
 -- a number with its sign fits two bytes
 abbrev pub Fits16 : Clock → Type 0

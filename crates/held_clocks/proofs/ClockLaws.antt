@@ -13,15 +13,14 @@ use Rattle.bits.proofs.TableLaws.{table-ext}
 use Rattle.lookback.specs.Store.{Named, put, putAll, unplaced}
 use Rattle.lent.specs.Digits.{flagOf, zigOf}
 use Rattle.lent.specs.Held.{heldsAt}
-use Rattle.lent.proofs.HeldLaws.{put-room, put-view, puts-room, puts-view, Sound, helds-kept}
+use Rattle.lent.proofs.HeldLaws.{put-room, put-view, puts-room, puts-view, AllHeld, held-sound, helds-kept}
 use Rattle.lent.proofs.DropLaws.{one-room, drop-room, dropped-view}
 use Rattle.lent.proofs.DigitLaws.{pair-back, quad-back, zag-zig, flag-back}
 use Rattle.held_mask.specs.Size.{size}
-use Rattle.held_clocks.specs.Clocks.{clockAt, clockPlace, noClock, clocksKept, clockBytes, clockOf, clocksAt, putClock, putClocks, dropClock, droppedClocks}
+use Rattle.held_clocks.specs.Clocks.{clockAt, clockOffset, noClock, clocksKept, clockBytes, clockOf, clocksAt, putClock, putClocks, dropClock, droppedClocks}
 use Rattle.held_clocks.specs.declared.HeldClock.{HeldClock}
 use Rattle.held_clocks.proofs.ReadLaws.{clock-none}
 
--- ---- there and back
 -- ---- there and back
 pub clock-long : (h : HeldClock) → length (clockBytes h) ≡ 12
 clock-long h = refl
@@ -36,19 +35,14 @@ no-clock-sound = refl
 
 -- ---- what the bytes say: putting named clocks is `putAll` on the list that the bytes say
 abbrev pub ClocksHeld : List (Named HeldClock) → Type 0
-ClocksHeld [] = Unit {0}
-ClocksHeld (n ∷ ns) = (n .held .has ≡ true) × ClocksHeld ns
-
-clocks-sound : (ns : List (Named HeldClock)) → ClocksHeld ns → Sound clockOf clockBytes 12 clock-long ns
-clocks-sound [] a = tt
-clocks-sound (n ∷ ns) a = (clock-sound (n .held) (a .0), clocks-sound ns (a .1))
+ClocksHeld ns = AllHeld (λ (h : HeldClock). h .has) ns
 
 module _ (s : List ℕ) (long : length s ≡ size) where
   pub clock-view : (slot : ℕ) (h : HeldClock) → h .has ≡ true → clocksAt (putClock s slot h) ≡ put (clocksAt s) slot h
   clock-view slot h e = put-view clockOf clockBytes 12 clock-long s 260 slot h (omega arith) ∙ rw (clock-sound h e)
 
   pub clocks-view : (ns : List (Named HeldClock)) → ClocksHeld ns → clocksAt (putClocks s ns) ≡ putAll (clocksAt s) ns
-  clocks-view ns a = puts-view clockOf clockBytes 12 clock-long s 260 ns (omega arith) (clocks-sound ns a)
+  clocks-view ns a = puts-view clockOf clockBytes 12 clock-long s 260 ns (omega arith) (held-sound clockOf clockBytes 12 clock-long (λ (h : HeldClock). h .has) clock-sound ns a)
 
   -- 01, What the ledger keeps: clocks that came by place are gone
   pub clocks-dropped : clocksAt (droppedClocks s 255) ≡ map (unplaced clocksKept) (clocksAt s)
@@ -75,7 +69,7 @@ clocks-kept lo hi s t k o = helds-kept clockOf 12 260 lo hi s t k o
 -- zero bytes, however many, hold no clock
 module _ (s : List ℕ) (zeros : (j : ℕ) → getD s j 0 ≡ 0) where
   pub zero-clock : (slot : ℕ) → clockAt s slot ≡ noClock
-  zero-clock slot = sym (clock-none s slot (clockPlace slot) refl (λ e. omega (arith, zeros (clockPlace slot))))
+  zero-clock slot = sym (clock-none s slot (clockOffset slot) refl (λ e. omega (arith, zeros (clockOffset slot))))
 
   pub zero-clocks : clocksAt s ≡ table (λ (i : ℕ). noClock) 255
   unfolding heldsAt

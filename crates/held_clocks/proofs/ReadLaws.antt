@@ -6,28 +6,23 @@ use mathlib.Core.Bool.{true}
 use mathlib.Core.List.{List}
 use lib.Dec.{eqb}
 use lib.ListN.{getD}
-use native.Mathlib.Nat.{add-zero}
-use native.Mathlib.Omega.{arith}
+use native.Mathlib.Nat.{add-zero, add-assoc}
 use borrow.Author.Tests.{eq-eqb, ne-eqb}
 use Rattle.bits.specs.Bytes.{rowAt}
 use Rattle.bits.specs.Table.{table}
 use Rattle.lent.specs.Digits.{zagOf, twoAt, fourAt}
 use Rattle.lent.specs.Held.{heldAt}
-use Rattle.held_clocks.specs.Clocks.{noClock, clockPlace, clockAt}
+use Rattle.held_clocks.specs.Clocks.{noClock, clockOffset, clockAt}
 use Rattle.held_clocks.specs.declared.HeldClock.{HeldClock}
 
--- offsets added one after the other
-plus : (at m n : ℕ) → at + m + n ≡ at + (m + n)
-plus at m n = omega arith
-
 module _ (s : List ℕ) (slot at : ℕ) where
-  pub clock-none : at ≡ clockPlace slot → getD s at 0 ≢ 1 → noClock ≡ clockAt s slot
+  pub clock-none : at ≡ clockOffset slot → getD s at 0 ≢ 1 → noClock ≡ clockAt s slot
   unfolding heldAt rowAt table
   clock-none e n = rw (← e, add-zero at, ne-eqb _ _ n)
 
-  pub clock-some : at ≡ clockPlace slot → getD s at 0 ≡ 1 →
+  pub clock-some : at ≡ clockOffset slot → getD s at 0 ≡ 1 →
       _≡_ {A = HeldClock}
       (record { has = true; placed = eqb (getD s (at + 1) 0) 1; epoch = fourAt s (at + 2); ssr = getD s (at + 6) 0; corr = getD s (at + 7) 0; c0 = zagOf (twoAt s (at + 8)) })
       (clockAt s slot)
   unfolding heldAt rowAt table
-  clock-some e n = rw (← e, add-zero at, eq-eqb _ _ n, plus at 2 1, plus at 2 2, plus at 2 3, plus at 8 1)
+  clock-some e n = rw (← e, add-zero at, eq-eqb _ _ n, add-assoc at 2 1, add-assoc at 2 2, add-assoc at 2 3, add-assoc at 8 1)

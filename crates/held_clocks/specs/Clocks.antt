@@ -8,7 +8,7 @@ use lib.ListN.{getD}
 use Rattle.bits.specs.Pick.{pick}
 use Rattle.lookback.specs.Store.{Named, Kind}
 use Rattle.lent.specs.Digits.{flagOf, zigOf, zagOf, pairOf, quadOf}
-use Rattle.lent.specs.Held.{place, heldAt, heldsAt, putHeld, putHelds}
+use Rattle.lent.specs.Held.{offset, heldAt, heldsAt, putHeld, putHelds}
 use Rattle.lent.specs.Drop.{dropOne, droppedTo}
 use Rattle.held_clocks.specs.declared.HeldClock.{HeldClock}
 
@@ -52,8 +52,8 @@ clockOf r =
     noClock
 
 -- FORM: where the clock of a slot begins
-abbrev pub clockPlace : ℕ → ℕ
-clockPlace slot = place 12 260 slot
+abbrev pub clockOffset : ℕ → ℕ
+clockOffset slot = offset 12 260 slot
 
 -- the clock kept for a slot
 abbrev pub clockAt : List ℕ → ℕ → HeldClock

@@ -1,6 +1,7 @@
 // The clocks that a ledger keeps, as lent bytes: docs/FORM.md. Any bytes are such a form; bytes past the end are 0.
 ghost use mathlib.Core.Path.{_≡_};
-ghost use Rattle.held_clocks.specs.Clocks.{noClock, clockBytes, clockPlace, clockAt, putClock, dropClock, droppedClocks};
+ghost use Rattle.held_clocks.specs.Clocks.{noClock, clockBytes, clockOffset, clockAt, putClock, dropClock, droppedClocks};
+use records::slots::Slot;
 
 // A clock as it is kept: its part's epoch and IOD SSR, and whether it came by place. C0 is raw.
 pub struct HeldClock {
@@ -52,21 +53,22 @@ fn clock_bytes(h: HeldClock) -> [u8; 12]
 }
 
 // Where the clock of a slot begins.
-fn clock_place(slot: u8) -> usize
-    ensures { λ r. ⌜ r ≡ clockPlace slot ⌝ }
+fn clock_offset(slot: Slot) -> usize
+    ensures { λ r. ⌜ r ≡ clockOffset (slot .0) ⌝ }
 {
-    if slot == 0 {
+    let s = slot.0;
+    if s == 0 {
         260
     } else {
-        260 + 12 * ((slot - 1) as usize)
+        260 + 12 * ((s - 1) as usize)
     }
 }
 
 // The clock kept for a slot.
-pub fn get_clock(t: &[u8], slot: u8) -> HeldClock
-    ensures { λ r. ⌜ r ≡ clockAt (now (t .entry)) slot ⌝ }
+pub fn get_clock(t: &[u8], slot: Slot) -> HeldClock
+    ensures { λ r. ⌜ r ≡ clockAt (now (t .entry)) (slot .0) ⌝ }
 {
-    let at = clock_place(slot);
+    let at = clock_offset(slot);
     if lent::byte(t, at) != 1 {
         return no_clock();
     }
@@ -85,28 +87,25 @@ pub fn get_clock(t: &[u8], slot: u8) -> HeldClock
     }
 }
 
-// A clock is kept for a slot; a slot that is not 1 to 255 is none.
-pub fn put_clock(t: &mut [u8], slot: u16, h: HeldClock)
-    ensures { λ r. ⌜ now (t .exit) ≡ putClock (now (t .entry)) slot h ⌝ }
+// A clock is kept for a slot; slot 0 is none.
+pub fn put_clock(t: &mut [u8], slot: Slot, h: HeldClock)
+    ensures { λ r. ⌜ now (t .exit) ≡ putClock (now (t .entry)) (slot .0) h ⌝ }
 {
-    if slot == 0 {
+    if slot.0 == 0 {
         return;
     }
-    if 255 < slot {
-        return;
-    }
-    let at = clock_place(slot as u8);
+    let at = clock_offset(slot);
     let b = clock_bytes(h);
     lent::store(t, at, &b);
 }
 
 // A slot's clock is dropped if it came by place.
-fn drop_clock(t: &mut [u8], slot: u8)
-    ensures { λ r. ⌜ now (t .exit) ≡ dropClock (now (t .entry)) slot ⌝ }
+fn drop_clock(t: &mut [u8], slot: Slot)
+    ensures { λ r. ⌜ now (t .exit) ≡ dropClock (now (t .entry)) (slot .0) ⌝ }
 {
     let h = get_clock(t, slot);
     if h.placed {
-        put_clock(t, slot as u16, no_clock());
+        put_clock(t, slot, no_clock());
     }
 }
 
@@ -116,7 +115,7 @@ pub fn drop_placed(t: &mut [u8])
 {
     let mut i: u8 = 0;
     while i < 255 {
-        drop_clock(t, i + 1);
+        drop_clock(t, Slot(i + 1));
         i += 1;
     }
 }

@@ -5,24 +5,20 @@ use Prim.Native.Nat.{ℕ, _+_, _≤_, _<_}
 use mathlib.Core.Bool.{Bool, true, false, Bool·beq}
 use mathlib.Core.List.{List, _∷_}
 use lib.ListN.{getD, length, drop, drop-of-length-le}
-use lib.Seq.{drop-cons}
-use native.Mathlib.Numerals.{add-one}
 use borrow.Author.Tests.{eq-eqb, ne-eqb}
+use Rattle.bits.proofs.TableLaws.{drop-one}
 use Rattle.contents.specs.declared.parts.MaskPart.{MaskPart}
 use Rattle.held_mask.specs.Mask.{HeldMask, heldMask, sameBits, sameMask}
-
-drop-one : (l : List Bool) (i : ℕ) → i < length l → drop i l ≡ getD l i false ∷ drop (i + 1) l
-drop-one l i h = rw (add-one, drop-cons l i false)
 
 -- a turn of the walk over two lists of bits
 module _ (a b : List Bool) (i : ℕ) (p : i < length a) (q : i < length b) where
   pub bits-differ : Bool·beq (getD a i false) (getD b i false) ≡ false → sameBits (drop i a) (drop i b) ≡ false
   unfolding sameBits
-  bits-differ e = rw (drop-one a i p, drop-one b i q, e)
+  bits-differ e = rw (drop-one a i false p, drop-one b i false q, e)
 
   pub bits-same : Bool·beq (getD a i false) (getD b i false) ≡ true → sameBits (drop i a) (drop i b) ≡ sameBits (drop (i + 1) a) (drop (i + 1) b)
   unfolding sameBits
-  bits-same e = rw (drop-one a i p, drop-one b i q, e)
+  bits-same e = rw (drop-one a i false p, drop-one b i false q, e)
 
 pub bits-end : (a b : List Bool) (i : ℕ) → length a ≤ i → length b ≤ i → sameBits (drop i a) (drop i b) ≡ true
 unfolding sameBits

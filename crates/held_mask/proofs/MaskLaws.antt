@@ -10,11 +10,13 @@ use native.Mathlib.Omega.{arith}
 use borrow.Author.Tests.{eqb-true, eq-eqb, ne-eqb}
 use Rattle.lent.proofs.ZeroLaws.{getD-zeros}
 use Rattle.bits.specs.Bytes.{storeAt, Kept}
+use Rattle.bits.proofs.TestLaws.{both-hold}
 use Rattle.bits.proofs.TableLaws.{length-table, getD-table, table-ext, table-same}
 use Rattle.bits.proofs.ByteLaws.{store-in, store-out, length-store, kept-trans, kept-store}
-use Rattle.lent.specs.Digits.{flagOf}
+use Rattle.lent.specs.Digits.{flagOf, flagsOf}
+use Rattle.lent.proofs.DigitLaws.{flag-back, length-flags, flag-at}
 use Rattle.contents.specs.declared.parts.MaskPart.{MaskPart}
-use Rattle.held_mask.specs.Mask.{HeldMask, noMask, heldMask, bitAtSlot, sameBits, sameMask, bitsAt, maskAt, flagsOf, putMask}
+use Rattle.held_mask.specs.Mask.{HeldMask, noMask, heldMask, bitAtSlot, sameBits, sameMask, bitsAt, maskAt, putMask}
 
 -- ---- the same is equal
 beq-eq : (a b : Bool) → Bool·beq a b ≡ true → a ≡ b
@@ -27,18 +29,13 @@ beq-refl : (a : Bool) → Bool·beq a a ≡ true
 beq-refl true = refl
 beq-refl false = refl
 
--- both of two tests hold
-both : (a b : Bool) → a && b ≡ true → (a ≡ true) × (b ≡ true)
-both true b h = (refl, h)
-both false b h = (h, absurd (let z : _≡_ {A = ℕ} 0 1 = cc in omega arith))
-
 bits-eq : (a b : List Bool) → sameBits a b ≡ true → a ≡ b
 unfolding sameBits
 bits-eq [] [] h = refl
 bits-eq [] (y ∷ ys) h = cc
 bits-eq (x ∷ xs) [] h = cc
 bits-eq (x ∷ xs) (y ∷ ys) h =
-    let p = both (Bool·beq x y) (sameBits xs ys) h in
+    let p = both-hold (Bool·beq x y) (sameBits xs ys) h in
     cc (beq-eq x y (p .0), bits-eq xs ys (p .1))
 
 bits-refl : (a : List Bool) → sameBits a a ≡ true
@@ -53,9 +50,9 @@ mask-eq a b h =
     let s = eqb (a .ssr) (b .ssr) in
     let i = eqb (a .iodp) (b .iodp) in
     let t = sameBits (a .bits) (b .bits) in
-    let p = both (f && s && i) t h in
-    let q = both (f && s) i (p .0) in
-    let r = both f s (q .0) in
+    let p = both-hold (f && s && i) t h in
+    let q = both-hold (f && s) i (p .0) in
+    let r = both-hold f s (q .0) in
     λ j. record { has = beq-eq (a .has) (b .has) (r .0) j; ssr = eqb-true (a .ssr) (b .ssr) (r .1) j; iodp = eqb-true (a .iodp) (b .iodp) (q .1) j; bits = bits-eq (a .bits) (b .bits) (p .1) j }
 
 pub same-refl : (m : HeldMask) → sameMask m m ≡ true
@@ -78,18 +75,6 @@ module _ (s : List ℕ) (i x : ℕ) (h : i < 255) (e : x ≡ getD s (4 + i) 0) w
 
   pub bit-clear : x ≢ 1 → getD (bitsAt s) i false ≡ false
   bit-clear q = bit-at s i h ∙ rw (← e) (ne-eqb x 1 q)
-
-pub length-flags : (bits : List Bool) → length (flagsOf bits) ≡ 255
-unfolding flagsOf
-length-flags bits = length-table _ 255
-
-flag-at : (bits : List Bool) (i : ℕ) → i < 255 → getD (flagsOf bits) i 0 ≡ flagOf (getD bits i false)
-unfolding flagsOf
-flag-at bits i h = getD-table _ 255 i 0 h
-
-flag-back : (b : Bool) → eqb (flagOf b) 1 ≡ b
-flag-back true = refl
-flag-back false = refl
 
 -- the bit of slot 1 to 255 is that of its byte; slot 0 has none
 pub slot-bit : (s : List ℕ) (slot : ℕ) → 0 < slot → slot < 256 → bitAtSlot (bitsAt s) slot ≡ eqb (getD s (3 + slot) 0) 1

@@ -6,7 +6,7 @@ use lib.Dec.{eqb}
 use lib.ListN.{getD}
 use Rattle.bits.specs.Bytes.{storeAt}
 use Rattle.bits.specs.Table.{table}
-use Rattle.lent.specs.Digits.{flagOf}
+use Rattle.lent.specs.Digits.{flagsOf}
 use Rattle.contents.specs.declared.parts.MaskPart.{MaskPart}
 
 -- 01, What the ledger keeps: a mask as it is held; entry i of its bits is that of slot i + 1
@@ -46,10 +46,6 @@ bitsAt s = table (λ (i : ℕ). eqb (getD s (4 + i) 0) 1) 255
 -- FORM: the mask held
 abbrev pub maskAt : List ℕ → HeldMask
 maskAt s = record { has = eqb (getD s 1 0) 1; ssr = getD s 2 0; iodp = getD s 3 0; bits = bitsAt s }
-
--- FORM: bits as bytes
-unfoldable pub flagsOf : List Bool → List ℕ
-flagsOf bits = table (λ (i : ℕ). flagOf (getD bits i false)) 255
 
 -- FORM: the bytes with a mask kept
 unfoldable pub putMask : List ℕ → MaskPart → List ℕ

@@ -5,7 +5,7 @@ ghost use lib.Dec.{eqb};
 ghost use lib.ListN.{getD, length, drop};
 ghost use Rattle.bits.specs.Pick.{pick};
 ghost use Rattle.records.specs.Slots.{setCount, nthFrom, nthSet};
-ghost use Rattle.held_mask.specs.Mask.{bitsAt, bitAtSlot, maskAt, heldMask, sameBits, sameMask, flagsOf, putMask};
+ghost use Rattle.held_mask.specs.Mask.{bitsAt, bitAtSlot, maskAt, heldMask, sameBits, sameMask, putMask};
 use contents::parts::MaskPart;
 use records::slots::Place;
 use records::slots::Slot;
@@ -152,25 +152,12 @@ pub fn same_mask(t: &[u8], m: MaskPart) -> bool
     same_bits(t, bits)
 }
 
-// The bits as bytes.
-fn flags_of(bits: [bool; 255]) -> [u8; 255]
-    ensures { λ r. ⌜ r ≡ flagsOf bits ⌝ }
-{
-    let mut out = [0u8; 255];
-    let mut i: usize = 0;
-    while i < 255 {
-        out[i] = lent::flag(bits[i]);
-        i += 1;
-    }
-    out
-}
-
 // A mask is kept.
 pub fn put_mask(t: &mut [u8], m: MaskPart)
     ensures { λ r. ⌜ now (t .exit) ≡ putMask (now (t .entry)) m ⌝ }
 {
     let bits = m.bits;
-    let flags = flags_of(bits);
+    let flags = lent::flags_of(bits);
     let head = [1u8, m.ssr, m.iodp];
     lent::store(t, 4, &flags);
     lent::store(t, 1, &head);

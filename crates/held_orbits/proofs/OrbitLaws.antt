@@ -13,12 +13,12 @@ use Rattle.bits.proofs.TableLaws.{table-ext}
 use Rattle.lookback.specs.Store.{Named, put, putAll}
 use Rattle.lent.specs.Digits.{zigOf}
 use Rattle.lent.specs.Held.{heldsAt}
-use Rattle.lent.proofs.HeldLaws.{put-room, put-view, puts-room, puts-view, Sound, helds-kept}
+use Rattle.lent.proofs.HeldLaws.{put-room, put-view, puts-room, puts-view, AllHeld, held-sound, helds-kept}
 use Rattle.lent.proofs.DigitLaws.{pair-back, quad-back, zag-zig}
 use Rattle.records.specs.Ura.{quartersIn}
 use Rattle.records.proofs.UraLaws.{kind-back}
 use Rattle.held_mask.specs.Size.{size}
-use Rattle.held_orbits.specs.Orbits.{orbitAt, orbitPlace, noOrbit, orbitBytes, orbitOf, orbitsAt, putOrbit, putOrbits}
+use Rattle.held_orbits.specs.Orbits.{orbitAt, orbitOffset, noOrbit, orbitBytes, orbitOf, orbitsAt, putOrbit, putOrbits}
 use Rattle.held_orbits.specs.declared.HeldOrbit.{HeldOrbit}
 use Rattle.held_orbits.proofs.ReadLaws.{orbit-none}
 
@@ -49,19 +49,14 @@ no-orbit-sound = refl
 
 -- ---- what the bytes say: putting named orbits is `putAll` on the list that the bytes say
 abbrev pub OrbitsHeld : List (Named HeldOrbit) → Type 0
-OrbitsHeld [] = Unit {0}
-OrbitsHeld (n ∷ ns) = (n .held .has ≡ true) × OrbitsHeld ns
-
-orbits-sound : (ns : List (Named HeldOrbit)) → OrbitsHeld ns → Sound orbitOf orbitBytes 24 orbit-long ns
-orbits-sound [] a = tt
-orbits-sound (n ∷ ns) a = (orbit-sound (n .held) (a .0), orbits-sound ns (a .1))
+OrbitsHeld ns = AllHeld (λ (h : HeldOrbit). h .has) ns
 
 module _ (s : List ℕ) (long : length s ≡ size) where
   pub orbit-view : (slot : ℕ) (h : HeldOrbit) → h .has ≡ true → orbitsAt (putOrbit s slot h) ≡ put (orbitsAt s) slot h
   orbit-view slot h e = put-view orbitOf orbitBytes 24 orbit-long s 3320 slot h (omega arith) ∙ rw (orbit-sound h e)
 
   pub orbits-view : (ns : List (Named HeldOrbit)) → OrbitsHeld ns → orbitsAt (putOrbits s ns) ≡ putAll (orbitsAt s) ns
-  orbits-view ns a = puts-view orbitOf orbitBytes 24 orbit-long s 3320 ns (omega arith) (orbits-sound ns a)
+  orbits-view ns a = puts-view orbitOf orbitBytes 24 orbit-long s 3320 ns (omega arith) (held-sound orbitOf orbitBytes 24 orbit-long (λ (h : HeldOrbit). h .has) orbit-sound ns a)
 
 -- ---- what each step keeps, of bytes of any length
 module _ (s : List ℕ) where
@@ -78,7 +73,7 @@ orbits-kept lo hi s t k o = helds-kept orbitOf 24 3320 lo hi s t k o
 -- zero bytes, however many, hold no orbit
 module _ (s : List ℕ) (zeros : (j : ℕ) → getD s j 0 ≡ 0) where
   pub zero-orbit : (slot : ℕ) → orbitAt s slot ≡ noOrbit
-  zero-orbit slot = sym (orbit-none s slot (orbitPlace slot) refl (λ e. omega (arith, zeros (orbitPlace slot))))
+  zero-orbit slot = sym (orbit-none s slot (orbitOffset slot) refl (λ e. omega (arith, zeros (orbitOffset slot))))
 
   pub zero-orbits : orbitsAt s ≡ table (λ (i : ℕ). noOrbit) 255
   unfolding heldsAt

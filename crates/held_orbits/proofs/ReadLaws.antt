@@ -9,8 +9,7 @@ use mathlib.Core.Bool.{true}
 use mathlib.Core.List.{List}
 use lib.IntN.{ℤ}
 use lib.ListN.{getD}
-use native.Mathlib.Nat.{add-zero}
-use native.Mathlib.Omega.{arith}
+use native.Mathlib.Nat.{add-zero, add-assoc}
 use borrow.Author.Tests.{eq-eqb, ne-eqb}
 use Rattle.bits.specs.Bytes.{rowAt}
 use Rattle.bits.specs.Table.{table}
@@ -18,7 +17,7 @@ use Rattle.lent.specs.Digits.{zagOf, twoAt, fourAt}
 use Rattle.lent.specs.Held.{heldAt}
 use Rattle.records.specs.Ura.{heldUra}
 use Rattle.records.specs.declared.ura.Ura.{Ura}
-use Rattle.held_orbits.specs.Orbits.{noOrbit, orbitPlace, orbitAt}
+use Rattle.held_orbits.specs.Orbits.{noOrbit, orbitOffset, orbitAt}
 use Rattle.held_orbits.specs.declared.HeldOrbit.{HeldOrbit}
 
 -- an orbit made of equal fields
@@ -28,20 +27,16 @@ pub orbit-made : {e e' s s' i i' k k' : ℕ} {r r' a a' c c' : ℤ} {u u' : Ura}
     (record { has = true; epoch = e'; ssr = s'; iodn = i'; corr = k'; radial = r'; along = a'; cross = c'; ura = u' })
 orbit-made e s i k r a c u = rw (e, s, i, k, r, a, c, u)
 
--- a place a little further on
+-- an offset a little further on
 pub fits-on : {at : ℕ} (k : ℕ) → at < 9440 → k < 100 → Fits w64 (at + k)
 fits-on k h l = search needs
 
--- offsets added one after the other
-plus : (at m n : ℕ) → at + m + n ≡ at + (m + n)
-plus at m n = omega arith
-
 module _ (s : List ℕ) (slot at : ℕ) where
-  pub orbit-none : at ≡ orbitPlace slot → getD s at 0 ≢ 1 → noOrbit ≡ orbitAt s slot
+  pub orbit-none : at ≡ orbitOffset slot → getD s at 0 ≢ 1 → noOrbit ≡ orbitAt s slot
   unfolding heldAt rowAt table
   orbit-none e n = rw (← e, add-zero at, ne-eqb _ _ n)
 
-  pub orbit-some : at ≡ orbitPlace slot → getD s at 0 ≡ 1 →
+  pub orbit-some : at ≡ orbitOffset slot → getD s at 0 ≡ 1 →
       _≡_ {A = HeldOrbit}
       (record {
         has = true;
@@ -61,14 +56,14 @@ module _ (s : List ℕ) (slot at : ℕ) where
         ← e,
         add-zero at,
         eq-eqb _ _ n,
-        plus at 1 1,
-        plus at 1 2,
-        plus at 1 3,
-        plus at 6 1,
-        plus at 9 1,
-        plus at 11 1,
-        plus at 13 1,
-        plus at 16 1,
-        plus at 16 2,
-        plus at 16 3,
+        add-assoc at 1 1,
+        add-assoc at 1 2,
+        add-assoc at 1 3,
+        add-assoc at 6 1,
+        add-assoc at 9 1,
+        add-assoc at 11 1,
+        add-assoc at 13 1,
+        add-assoc at 16 1,
+        add-assoc at 16 2,
+        add-assoc at 16 3,
       )

@@ -9,7 +9,7 @@ use lib.ListN.{getD}
 use Rattle.bits.specs.Pick.{pick}
 use Rattle.lookback.specs.Store.{Named}
 use Rattle.lent.specs.Digits.{flagOf, zigOf, zagOf, pairOf, quadOf}
-use Rattle.lent.specs.Held.{place, heldAt, heldsAt, putHeld, putHelds}
+use Rattle.lent.specs.Held.{offset, heldAt, heldsAt, putHeld, putHelds}
 use Rattle.records.specs.Ura.{kindOf, quartersIn, heldUra}
 use Rattle.records.specs.declared.ura.Ura.the-variants.{Unknown}
 use Rattle.held_orbits.specs.declared.HeldOrbit.{HeldOrbit}
@@ -65,8 +65,8 @@ orbitOf r =
     noOrbit
 
 -- FORM: where the orbit of a slot begins
-abbrev pub orbitPlace : ℕ → ℕ
-orbitPlace slot = place 24 3320 slot
+abbrev pub orbitOffset : ℕ → ℕ
+orbitOffset slot = offset 24 3320 slot
 
 -- the orbit kept for a slot
 abbrev pub orbitAt : List ℕ → ℕ → HeldOrbit

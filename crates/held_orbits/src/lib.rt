@@ -1,6 +1,7 @@
 // The orbits that a ledger keeps, as lent bytes: docs/FORM.md. Any bytes are such a form; bytes past the end are 0.
 ghost use mathlib.Core.Path.{_≡_};
-ghost use Rattle.held_orbits.specs.Orbits.{noOrbit, orbitBytes, orbitPlace, orbitAt, putOrbit};
+ghost use Rattle.held_orbits.specs.Orbits.{noOrbit, orbitBytes, orbitOffset, orbitAt, putOrbit};
+use records::slots::Slot;
 use records::ura::Ura;
 use records::ura::held_ura;
 use records::ura::ura_kind;
@@ -80,21 +81,22 @@ fn orbit_bytes(h: HeldOrbit) -> [u8; 24]
 }
 
 // Where the orbit of a slot begins.
-fn orbit_place(slot: u8) -> usize
-    ensures { λ r. ⌜ r ≡ orbitPlace slot ⌝ }
+fn orbit_offset(slot: Slot) -> usize
+    ensures { λ r. ⌜ r ≡ orbitOffset (slot .0) ⌝ }
 {
-    if slot == 0 {
+    let s = slot.0;
+    if s == 0 {
         3320
     } else {
-        3320 + 24 * ((slot - 1) as usize)
+        3320 + 24 * ((s - 1) as usize)
     }
 }
 
 // The orbit kept for a slot.
-pub fn get_orbit(t: &[u8], slot: u8) -> HeldOrbit
-    ensures { λ r. ⌜ r ≡ orbitAt (now (t .entry)) slot ⌝ }
+pub fn get_orbit(t: &[u8], slot: Slot) -> HeldOrbit
+    ensures { λ r. ⌜ r ≡ orbitAt (now (t .entry)) (slot .0) ⌝ }
 {
-    let at = orbit_place(slot);
+    let at = orbit_offset(slot);
     if lent::byte(t, at) != 1 {
         return no_orbit();
     }
@@ -119,17 +121,14 @@ pub fn get_orbit(t: &[u8], slot: u8) -> HeldOrbit
     }
 }
 
-// An orbit is kept for a slot; a slot that is not 1 to 255 is none.
-pub fn put_orbit(t: &mut [u8], slot: u16, h: HeldOrbit)
-    ensures { λ r. ⌜ now (t .exit) ≡ putOrbit (now (t .entry)) slot h ⌝ }
+// An orbit is kept for a slot; slot 0 is none.
+pub fn put_orbit(t: &mut [u8], slot: Slot, h: HeldOrbit)
+    ensures { λ r. ⌜ now (t .exit) ≡ putOrbit (now (t .entry)) (slot .0) h ⌝ }
 {
-    if slot == 0 {
+    if slot.0 == 0 {
         return;
     }
-    if slot > 255 {
-        return;
-    }
-    let at = orbit_place(slot as u8);
+    let at = orbit_offset(slot);
     let b = orbit_bytes(h);
     lent::store(t, at, &b);
 }

@@ -28,6 +28,7 @@ use places::needs_mask;
 use places::place_verdict;
 use records::slots::Place;
 use records::slots::Slot;
+use records::slots::slot_named;
 use verdict::Verdict;
 use verdict::number_of;
 
@@ -47,7 +48,7 @@ fn clocks_by_slot(t: &mut [u8], p: ClockPart)
     while j < 23 {
         let k = ks[j];
         let h = held_clock(false, p.epoch, p.ssr, k);
-        held_clocks::put_clock(t, k.slot, h);
+        held_clocks::put_clock(t, slot_named(k.slot), h);
         j += 1;
     }
 }
@@ -58,17 +59,16 @@ fn clocks_by_place(t: &mut [u8], kind: u8, p: ClockPart)
     ensures { λ r. ⌜ now (t .exit) ≡ putClocks (now (t .entry)) (clocksOf (maskAt (now (t .entry))) kind p) ⌝ }
 {
     let ks = p.clocks;
-    let first = first_place(kind, p) as u16;
     let count = p.count as usize;
-    let mut from: u8 = 0;
-    let mut n = first;
+    let mut from = Slot(0);
+    let mut n = first_place(kind, p);
     let mut j: usize = 0;
     while (j < 23) & (j < count) {
-        let slot = held_mask::nth_after(t, Slot(from), Place(n)).0;
+        let slot = held_mask::nth_after(t, from, n);
         let h = held_clock(true, p.epoch, p.ssr, ks[j]);
-        held_clocks::put_clock(t, slot as u16, h);
-        from = held_mask::resumed(Slot(from), Place(n), Slot(slot)).0;
-        n = 1;
+        held_clocks::put_clock(t, slot, h);
+        from = held_mask::resumed(from, n, slot);
+        n = Place(1);
         j += 1;
     }
 }
@@ -96,7 +96,7 @@ fn orbits_by_slot(t: &mut [u8], p: OrbitPart)
     while j < 6 {
         let o = os[j];
         let h = held_orbit(p.epoch, p.ssr, o);
-        held_orbits::put_orbit(t, o.slot, h);
+        held_orbits::put_orbit(t, slot_named(o.slot), h);
         j += 1;
     }
 }

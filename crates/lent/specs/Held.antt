@@ -8,12 +8,12 @@ use Rattle.bits.specs.Bytes.{storeAt, rowAt}
 use Rattle.lookback.specs.Store.{Named}
 
 -- where the record of a slot begins: records of w bytes from st on
-abbrev pub place : ℕ → ℕ → ℕ → ℕ
-place w st slot = st + w * (slot - 1)
+abbrev pub offset : ℕ → ℕ → ℕ → ℕ
+offset w st slot = st + w * (slot - 1)
 
 -- the record of a slot
 unfoldable pub heldAt : {A : Type 0} → (List ℕ → A) → ℕ → List ℕ → ℕ → ℕ → A
-heldAt of w s st slot = of (rowAt s (place w st slot) w)
+heldAt of w s st slot = of (rowAt s (offset w st slot) w)
 
 -- the records of slots 1 to 255
 unfoldable pub heldsAt : {A : Type 0} → (List ℕ → A) → ℕ → List ℕ → ℕ → List A
@@ -21,7 +21,7 @@ heldsAt of w s st = table (λ (i : ℕ). heldAt of w s st (i + 1)) 255
 
 -- the bytes with one record put; a slot that is not 1 to 255 is none
 unfoldable pub putHeld : {A : Type 0} → (A → List ℕ) → ℕ → List ℕ → ℕ → ℕ → A → List ℕ
-putHeld bytes w s st slot h = pick (eqb slot 0) s (pick (ltb slot 256) (storeAt s (place w st slot) (bytes h)) s)
+putHeld bytes w s st slot h = pick (eqb slot 0) s (pick (ltb slot 256) (storeAt s (offset w st slot) (bytes h)) s)
 
 -- the bytes with named records put one after the other
 unfoldable pub putHelds : {A : Type 0} → (A → List ℕ) → ℕ → List ℕ → ℕ → List (Named A) → List ℕ

@@ -99,8 +99,8 @@ pub fn slot_row(ledger: &[u8], slot: Slot, issue: u16) -> RowAnswer
     if !held_mask::has_bit(ledger, slot) {
         return RowAnswer::Refused(18);
     }
-    let o = held_orbits::get_orbit(ledger, slot.0);
-    let k = held_clocks::get_clock(ledger, slot.0);
+    let o = held_orbits::get_orbit(ledger, slot);
+    let k = held_clocks::get_clock(ledger, slot);
     if !do_agree(held_mask::mask_ssr(ledger), o, k, issue) {
         return RowAnswer::Refused(18);
     }

@@ -14,6 +14,7 @@ use lib.Seq.{getD-append-add}
 use lib.Bits.{bitXor}
 use Rattle.bits.proofs.FieldLaws.{field-lt}
 use Rattle.bits.proofs.TableLaws.{length-table, getD-table}
+use Rattle.bits.proofs.TestLaws.{both-hold}
 use Rattle.bits.proofs.Below.{both-left, both-right}
 use Rattle.field64.specs.Field.{product}
 use Rattle.parity_tables.specs.Tables.{positions, factors}
@@ -58,15 +59,11 @@ row-word s (p ∷ ps) (f ∷ fs) t =
 abbrev sum : List ℕ → ℕ → ℕ
 sum s g = rowSum s (getD positions g []) (getD factors g [])
 
-two : (a b : Bool) → a && b ≡ true → (a ≡ true) × (b ≡ true)
-two true b e = (refl, e)
-two false b e = absurd (let z : _≡_ {A = Bool} false true = e in let y : _≡_ {A = ℕ} 0 1 = cc in omega arith)
-
 zero-at : (s : List ℕ) (n g k : ℕ) → zeroFrom s g n ≡ true → g ≤ k → k < g + n → sum s k ≡ 0
 unfolding zeroFrom
 zero-at s zero g k t a b = absurd (let z : ⊥ = omega arith in z)
 zero-at s (suc n) g k t a b =
-    let w = two (eqb (sum s g) 0) (zeroFrom s (g + 1) n) t in
+    let w = both-hold (eqb (sum s g) 0) (zeroFrom s (g + 1) n) t in
     ⊎-elim (λ q. subst (λ (j : ℕ). sum s j ≡ 0) q (eqb-true (sum s g) 0 (w .0)))
     (λ l. zero-at s n (g + 1) k (w .1) (omega arith) (omega arith)) (eq-or-lt-of-le a)
 

@@ -73,12 +73,12 @@ sum-single f p (suc n) h =
     (ap (λ (x : ℕ). bitXor x (f n)) (sum-ext _ (λ (k : ℕ). 0) n (λ k l. rw (ne-eqb n k (λ q. omega arith))) ∙ sum-zero n)))
     (λ ne. rw (ne-eqb p n ne) (ap (λ (x : ℕ). bitXor x 0) (sum-single f p n (omega arith)) ∙ xor-zero-r (f p)))
 
--- ---- a sum by the places where a is not zero
+-- ---- a sum by the entries where a is not zero
 abbrev keep : ℕ → ℕ → List (ℕ × ℕ) → List (ℕ × ℕ)
 keep zero j ts = ts
 keep (suc x) j ts = (suc x, j) ∷ ts
 
--- the elements a j that are not zero, each with its place j below n
+-- the elements a j that are not zero, each with its index j below n
 unfoldable pub terms : (ℕ → ℕ) → ℕ → List (ℕ × ℕ)
 terms a zero = []
 terms a (suc n) = keep (a n) n (terms a n)

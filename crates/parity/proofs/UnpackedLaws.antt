@@ -16,6 +16,7 @@ use Rattle.bits.specs.Table.{table}
 use Rattle.bits.proofs.Below.{all, both, both-left, both-right, below}
 use Rattle.bits.proofs.ByteWise.{field-split, field-byte}
 use Rattle.bits.proofs.FieldLaws.{field-lt}
+use Rattle.bits.proofs.WindowLaws.{field-part}
 use Rattle.bits.proofs.TableLaws.{length-table, getD-table, fill-step}
 use Rattle.bits.proofs.XorLaws.{xor-assoc}
 use Rattle.field64.specs.Field.{product}
@@ -25,13 +26,6 @@ use Rattle.parity.specs.Parity.{symbolOf, rowSum, groupFails}
 use Rattle.parity_tables.specs.Tables.{positions, factors}
 use Rattle.parity.specs.Unpacked.{symbolLog, symbolLogs, termBy, rowBy, failsBy}
 
--- the m bits that stand k bits from the end of a wider field
-pub field-part : (s : List ℕ) (at a m k : ℕ) → fieldAt s at (a + m + k) / 2 ^ k % 2 ^ m ≡ fieldAt s (at + a) m
-field-part s at a m k =
-    ap (λ (x : ℕ). x / 2 ^ k % 2 ^ m) (field-split s at (a + m) k)
-    ∙ ap (λ (x : ℕ). x % 2 ^ m) (high (fieldAt s at (a + m)) k (field-lt s (at + (a + m)) k) ∙ field-split s at a m)
-    ∙ low (fieldAt s at a) m (field-lt s (at + a) m)
-
 -- symbol 4 q + i stands 22 - 6 i bits from the end of the 32 bits from byte 3 + 3 q on
 pub symbol-part : (s : List ℕ) (q a k n w : ℕ) → a + 6 + k ≡ 32 → 8 * (3 + 3 * q) + a ≡ 28 + 6 * n → w ≡ fieldAt s (8 * (3 + 3 * q)) 32 → padLog (w / 2 ^ k % 64) ≡ symbolLog s n
 unfolding symbolLog symbolOf
@@ -40,29 +34,6 @@ symbol-part s q a k n w e f g =
     ap (λ (x : ℕ). x / 2 ^ k % 64) (g ∙ ap (fieldAt s (8 * (3 + 3 * q))) (sym e))
     ∙ field-part s (8 * (3 + 3 * q)) a 6 k
     ∙ ap (λ (i : ℕ). fieldAt s i 6) f)
-
--- whole bytes
-byte-field : (s : List ℕ) (j : ℕ) → getD s j 0 < 256 → fieldAt s (8 * j) 8 ≡ getD s j 0
-byte-field s j h =
-    let e : getD s j 0 / 2 ^ (8 - 0 - 8) % 2 ^ 8 ≡ getD s j 0 = omega arith in
-    ap (λ (i : ℕ). fieldAt s i 8) (sym (add-zero (8 * j))) ∙ field-byte s j 0 8 (omega arith) ∙ e
-
--- four of them in a row
-pub four-bytes : (s : List ℕ) (j : ℕ) → ((i : ℕ) → getD s i 0 < 256)
-    → getD s j 0 * 2 ^ 24 + getD s (j + 1) 0 * 2 ^ 16 + getD s (j + 2) 0 * 2 ^ 8 + getD s (j + 3) 0 ≡ fieldAt s (8 * j) 32
-four-bytes s j h =
-    let at : (i : ℕ) → fieldAt s (8 * j + 8 * i) 8 ≡ getD s (j + i) 0 =
-    λ i. let e : 8 * j + 8 * i ≡ 8 * (j + i) = omega arith in ap (λ (k : ℕ). fieldAt s k 8) e ∙ byte-field s (j + i) (h (j + i)) in
-    omega (
-      arith,
-      field-split s (8 * j) 24 8,
-      field-split s (8 * j) 16 8,
-      field-split s (8 * j) 8 8,
-      byte-field s j (h j),
-      at 1,
-      at 2,
-      at 3,
-    )
 
 -- four more stored
 pub fill-four : (f : ℕ → ℕ) (q : ℕ) (d out : List ℕ) (x₀ x₁ x₂ x₃ : ℕ) → 4 * q + 3 < length d → out ≡ table f (4 * q) ++ drop (4 * q) d

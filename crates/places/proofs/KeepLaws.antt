@@ -1,5 +1,5 @@
 -- What one frame's records name, a turn of a walk at a time, and when a clock part by place is refused.
-use mathlib.Core.Path.{_≡_, refl, sym, _∙_}
+use mathlib.Core.Path.{_≡_, refl, sym, ap, _∙_}
 use mathlib.Core.Logic.{_≢_, _⊎_, inl, inr, dite}
 use Prim.Native.Nat.{ℕ, _+_, _-_, _*_, _≤_, _<_}
 use mathlib.Core.Bool.{Bool, true, false, not, _&&_, _||_}
@@ -7,13 +7,13 @@ use mathlib.Core.List.{List, [], _∷_, map}
 use mathlib.Core.Option.{none, some}
 use lib.Dec.{eqb, ltb}
 use lib.ListN.{getD, length, take, drop, drop-of-length-le, length-map}
-use lib.Seq.{drop-cons}
-use native.Mathlib.Decide.{ℕ-discrete}
-use native.Mathlib.Numerals.{add-one}
+use native.Mathlib.Decide.{ℕ-discrete, decLt}
 use native.Mathlib.Omega.{arith}
 use borrow.Author.Tests.{eq-eqb, ne-eqb, lt-ltb, le-ltb, ltb-true, ltb-false}
 use Rattle.bits.specs.Pick.{pick}
-use Rattle.records.specs.Slots.{setCount, nthSet}
+use Rattle.bits.proofs.TableLaws.{drop-one}
+use Rattle.records.specs.Slots.{slotNamed, setCount, nthSet}
+use Rattle.records.proofs.SlotLaws.{nth-none}
 use Rattle.records.specs.declared.orbit.Orbit.{Orbit}
 use Rattle.records.specs.declared.clock.Clock.{Clock}
 use Rattle.contents.specs.declared.parts.ClockPart.{ClockPart}
@@ -22,13 +22,13 @@ use Rattle.contents.specs.declared.parts.Contents.{Contents}
 use Rattle.layout.proofs.LayoutLaws.{pick-all}
 use Rattle.frame.proofs.FrameLaws.{skipped}
 use Rattle.lent.specs.Held.{putHelds, putHeld}
+use Rattle.lent.proofs.HeldLaws.{put-named, AllHeld}
+use Rattle.held_clocks.specs.declared.HeldClock.{HeldClock}
 use Rattle.held_clocks.proofs.ClockLaws.{ClocksHeld}
+use Rattle.held_orbits.specs.declared.HeldOrbit.{HeldOrbit}
 use Rattle.held_orbits.proofs.OrbitLaws.{OrbitsHeld}
 use Rattle.held_mask.specs.Mask.{HeldMask, heldMask}
-use Rattle.places.specs.Keeps.{heldOrbit, heldClock, bySlot, byPlace, maskOf, hasOrbits, orbitsOf, needsMask, firstPlace, placeToCheck, otherMask, clocksOf, placeNumber, placeRefusal}
-
-drop-one : {A : Type 0} (l : List A) (i : ℕ) (d : A) → i < length l → drop i l ≡ getD l i d ∷ drop (i + 1) l
-drop-one l i d h = rw (add-one, drop-cons l i d)
+use Rattle.places.specs.Keeps.{heldOrbit, heldClock, bySlot, byPlace, maskOf, hasOrbits, orbitsOf, needsMask, firstPlace, placeToCheck, otherMask, asPlace, clocksOf, placeNumber, placeRefusal}
 
 -- an array of records in a part is as long as its relation says
 pub length-mapped : (X Y : Type 0) (f : X → Y) (l : List X) (n : ℕ) → length (map f l) ≡ n → length l ≡ n
@@ -37,9 +37,9 @@ length-mapped X Y f l n e = sym (length-map l f) ∙ e
 -- ---- a walk over records, a turn and its end
 module _ {R A : Type 0} (bytes : A → List ℕ) (w st : ℕ) (f : R → A) (rs : List R) (j : ℕ) (d : R) (s : List ℕ) where
   pub slot-step : (slot : R → ℕ) → j < length rs →
-      putHelds bytes w s st (bySlot slot f (drop j rs)) ≡ putHelds bytes w (putHeld bytes w s st (slot (getD rs j d)) (f (getD rs j d))) st (bySlot slot f (drop (j + 1) rs))
+      putHelds bytes w s st (bySlot slot f (drop j rs)) ≡ putHelds bytes w (putHeld bytes w s st (slotNamed (slot (getD rs j d))) (f (getD rs j d))) st (bySlot slot f (drop (j + 1) rs))
   unfolding putHelds bySlot
-  slot-step slot h = rw (drop-one rs j d h)
+  slot-step slot h = rw (drop-one rs j d h, put-named bytes w s st (slot (getD rs j d)) (f (getD rs j d)))
 
   pub slot-end : (slot : R → ℕ) → length rs ≤ j → putHelds bytes w s st (bySlot slot f (drop j rs)) ≡ s
   unfolding putHelds bySlot
@@ -197,33 +197,49 @@ count-le [] = omega arith
 count-le (true ∷ bs) = omega (arith, count-le bs)
 count-le (false ∷ bs) = omega (arith, count-le bs)
 
+-- a place is the number that it is of, where a mask of 255 bits can have it, and is above the set bits where that is
+pub as-near : (n : ℕ) → n ≤ 255 → asPlace n ≡ n
+as-near n h = rw (lt-ltb n 65536 (omega arith))
+
+pub as-far : (n : ℕ) → 255 < n → 255 < asPlace n
+as-far n h = pick-all (λ (k : ℕ). 255 < k) (ltb n 65536) n 65535 h (omega arith)
+
+pub as-past : (c n : ℕ) → c ≤ 255 → c < asPlace n → c < n
+as-past c n l h = dite (decLt 255 n) (λ q. omega arith) (λ q. rw (as-near n (omega arith)) at h)
+
+pub as-within : (c n : ℕ) → c ≤ 255 → asPlace n ≤ c → n ≤ c
+as-within c n l h = dite (decLt 255 n) (λ q. absurd (let z : ⊥ = omega (arith, as-far n q) in z)) (λ q. rw (as-near n (omega arith)) at h)
+
+-- no satellite has the one or the other
+pub as-same : (bits : List Bool) (n : ℕ) → length bits ≡ 255 → nthSet bits (asPlace n) ≡ nthSet bits n
+as-same bits n long =
+    dite (decLt 255 n)
+    (λ q. nth-none bits 1 (asPlace n) (inr (omega (arith, as-far n q, count-le bits))) ∙ sym (nth-none bits 1 n (inr (omega (arith, count-le bits)))))
+    (λ q. ap (nthSet bits) (as-near n (omega arith)))
+
 -- so it lies within a mask of 255 bits
 pub first-near : (m : HeldMask) (kind : ℕ) (p : ClockPart) → length (m .bits) ≡ 255 → needsMask kind p ≡ true → placeRefusal m kind p ≡ 0 → firstPlace kind p ≤ 255
 first-near m kind p long n e = omega (arith, first-checked kind p n, place-in m kind p n e, count-le (m .bits))
 
 -- ---- what is named is held
-pub place-held : (bits : List Bool) (epoch ssr : ℕ) (ks : List Clock) (n : ℕ) → ClocksHeld (byPlace (heldClock true epoch ssr) bits ks n)
-unfolding byPlace
-place-held bits epoch ssr [] n = tt
-place-held bits epoch ssr (k ∷ ks) n = (refl, place-held bits epoch ssr ks (n + 1))
+module _ {R A : Type 0} (has : A → Bool) (f : R → A) (every : (r : R) → has (f r) ≡ true) where
+  slot-held : (slot : R → ℕ) (rs : List R) → AllHeld has (bySlot slot f rs)
+  unfolding bySlot
+  slot-held slot [] = tt
+  slot-held slot (r ∷ rs) = (every r, slot-held slot rs)
 
-pub slot-held : (epoch ssr : ℕ) (ks : List Clock) → ClocksHeld (bySlot (λ (k : Clock). k .slot) (heldClock false epoch ssr) ks)
-unfolding bySlot
-slot-held epoch ssr [] = tt
-slot-held epoch ssr (k ∷ ks) = (refl, slot-held epoch ssr ks)
-
-pub orbit-held : (epoch ssr : ℕ) (os : List Orbit) → OrbitsHeld (bySlot (λ (o : Orbit). o .slot) (heldOrbit epoch ssr) os)
-unfolding bySlot
-orbit-held epoch ssr [] = tt
-orbit-held epoch ssr (o ∷ os) = (refl, orbit-held epoch ssr os)
+  place-held : (bits : List Bool) (rs : List R) (n : ℕ) → AllHeld has (byPlace f bits rs n)
+  unfolding byPlace
+  place-held bits [] n = tt
+  place-held bits (r ∷ rs) n = (every r, place-held bits rs (n + 1))
 
 pub clocks-held : (m : HeldMask) (kind : ℕ) (p : ClockPart) → ClocksHeld (clocksOf m kind p)
 unfolding clocksOf
 clocks-held m kind p = go (eqb kind 7) (needsMask kind p)
   where
     go : (a b : Bool) → ClocksHeld (pick a (bySlot (λ (k : Clock). k .slot) (heldClock false (p .epoch) (p .ssr)) (p .clocks)) (pick b (byPlace (heldClock true (p .epoch) (p .ssr)) (m .bits) (take (p .count) (p .clocks)) (firstPlace kind p)) []))
-    go true b = slot-held (p .epoch) (p .ssr) (p .clocks)
-    go false true = place-held (m .bits) (p .epoch) (p .ssr) (take (p .count) (p .clocks)) (firstPlace kind p)
+    go true b = slot-held (λ (h : HeldClock). h .has) (heldClock false (p .epoch) (p .ssr)) (λ k. refl) (λ (k : Clock). k .slot) (p .clocks)
+    go false true = place-held (λ (h : HeldClock). h .has) (heldClock true (p .epoch) (p .ssr)) (λ k. refl) (m .bits) (take (p .count) (p .clocks)) (firstPlace kind p)
     go false false = tt
 
 pub orbits-held : (kind : ℕ) (p : OrbitPart) → OrbitsHeld (orbitsOf kind p)
@@ -231,5 +247,5 @@ unfolding orbitsOf
 orbits-held kind p = go (hasOrbits kind)
   where
     go : (b : Bool) → OrbitsHeld (pick b (bySlot (λ (o : Orbit). o .slot) (heldOrbit (p .epoch) (p .ssr)) (p .orbits)) [])
-    go true = orbit-held (p .epoch) (p .ssr) (p .orbits)
+    go true = slot-held (λ (h : HeldOrbit). h .has) (heldOrbit (p .epoch) (p .ssr)) (λ o. refl) (λ (o : Orbit). o .slot) (p .orbits)
     go false = tt

@@ -9,6 +9,7 @@ use lib.ListN.{length, getD, take, length-map, List·getD-map}
 use native.Mathlib.Decide.{ℕ-discrete, decLt}
 use native.Mathlib.Omega.{arith}
 use borrow.Author.Tests.{eq-eqb, ne-eqb}
+use Rattle.bits.proofs.TestLaws.{none-holds}
 use Rattle.bits.specs.Pick.{pick}
 use Rattle.bits.specs.Some.{anyOf}
 use Rattle.bits.specs.Table.{table}
@@ -23,7 +24,7 @@ use Rattle.judge.specs.Judge.{isSame, isAgain, clockSlots, orbitSlots}
 use Rattle.contents.specs.declared.parts.ClockPart.{ClockPart}
 use Rattle.contents.specs.declared.parts.OrbitPart.{OrbitPart}
 use Rattle.frame.specs.Frame.{contentsOf, foreignTo, refusalWith}
-use Rattle.frame.proofs.FrameLaws.{neither, no-test, parts-zero, sound, clocks-long, orbits-long}
+use Rattle.frame.proofs.FrameLaws.{neither, parts-zero, sound, clocks-long, orbits-long}
 use Rattle.lookback.specs.Store.{Named}
 use Rattle.held_mask.specs.Mask.{HeldMask}
 use Rattle.places.specs.Keeps.{heldOrbit, heldClock, bySlot, byPlace, hasOrbits, orbitsOf, needsMask, firstPlace, clocksOf, maskRefusal, refusalUnder}
@@ -39,14 +40,14 @@ module _ {R A : Type 0} (slot : R → ℕ) (f : R → A) where
   unfolding anyOf times bySlot
   same-none s [] e = refl
   same-none s (r ∷ rs) e =
-      let t = no-test (eqb (slot r) s) (anyOf (isSame s) (map slot rs)) e in
+      let t = none-holds (eqb (slot r) s) (anyOf (isSame s) (map slot rs)) e in
       rw (t .0) (omega (arith, same-none s rs (t .1)))
 
   again-once : (s : ℕ) → 1 ≤ s → (rs : List R) → anyOf isAgain (map slot rs) ≡ false → times s (bySlot slot f rs) ≤ 1
   unfolding anyOf times bySlot
   again-once s l [] e = omega arith
   again-once s l (r ∷ rs) e =
-      let t = no-test (isAgain (slot r) (map slot rs)) (anyOf isAgain (map slot rs)) e in
+      let t = none-holds (isAgain (slot r) (map slot rs)) (anyOf isAgain (map slot rs)) e in
       dite (ℕ-discrete (slot r) s)
       (λ q.
       let a : anyOf (isSame s) (map slot rs) ≡ false = rw (q, ne-eqb s 0 (λ z. omega arith)) at (t .0) in
@@ -90,7 +91,7 @@ module _ (prn : ℕ) (m : HeldMask) (f : List ℕ) (taken : refusalUnder prn m f
   none-twice =
       let n = neither (refusalWith (foreignTo prn f) f) (maskRefusal m (contentsOf f)) taken in
       let p = parts-zero (foreignTo prn f) f (n .0) in
-      no-test (anyOf isAgain (clockSlots (contentsOf f .clock .clocks))) (anyOf isAgain (orbitSlots (contentsOf f .orbit .orbits))) (sound (contentsOf f) (p .1) .once)
+      none-holds (anyOf isAgain (clockSlots (contentsOf f .clock .clocks))) (anyOf isAgain (orbitSlots (contentsOf f .orbit .orbits))) (sound (contentsOf f) (p .1) .once)
 
   pub orbit-once : times s (orbitsOf (contentsOf f .kind) (contentsOf f .orbit)) ≤ 1
   unfolding orbitsOf orbitSlots times

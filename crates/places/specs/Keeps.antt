@@ -65,6 +65,10 @@ orbitsOf kind p = pick (hasOrbits kind) (bySlot (λ (o : Orbit). o .slot) (heldO
 abbrev pub needsMask : ℕ → ClockPart → Bool
 needsMask kind p = eqb kind 4 || (eqb kind 6 && ltb 0 (p .count))
 
+-- a number as a place of 16 bits; above them it is 65535, and no satellite has the one or the other
+abbrev pub asPlace : ℕ → ℕ
+asPlace n = pick (ltb n 65536) n 65535
+
 -- 01: in type 4, record j (1 to 23) has place 23 × sub-type + j; in type 6, record j has place Slot_S + j − 1. This is record 1's
 abbrev pub firstPlace : ℕ → ClockPart → ℕ
 firstPlace kind p = pick (eqb kind 4) (23 * p .start + 1) (p .start)

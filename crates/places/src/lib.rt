@@ -2,12 +2,13 @@
 ghost use mathlib.Core.Path.{_≡_};
 ghost use Rattle.verdict.specs.Verdict.{says};
 ghost use Rattle.held_mask.specs.Mask.{maskAt};
-ghost use Rattle.places.specs.Keeps.{heldOrbit, heldClock, needsMask, firstPlace, placeToCheck, placeNumber, placeRefusal, placeSays};
+ghost use Rattle.places.specs.Keeps.{heldOrbit, heldClock, needsMask, asPlace, firstPlace, placeToCheck, placeNumber, placeRefusal, placeSays};
 use contents::parts::ClockPart;
 use held_clocks::HeldClock;
 use held_orbits::HeldOrbit;
 use records::clock::Clock;
 use records::orbit::Orbit;
+use records::slots::Place;
 use verdict::Verdict;
 use verdict::verdict_of;
 
@@ -18,26 +19,40 @@ pub fn needs_mask(kind: u8, p: ClockPart) -> bool
     (kind == 4) | ((kind == 6) & (p.count > 0))
 }
 
+// A number as a place. What 16 bits do not hold is 65535: no satellite has the one or the other.
+fn as_place(n: u32) -> Place
+    ensures { λ r. ⌜ r .0 ≡ asPlace n ⌝ }
+{
+    if n < 65536 {
+        Place(n as u16)
+    } else {
+        Place(65535)
+    }
+}
+
 // The place of the first clock record.
-pub fn first_place(kind: u8, p: ClockPart) -> u32
-    ensures { λ r. ⌜ r ≡ firstPlace kind p ⌝ }
+pub fn first_place(kind: u8, p: ClockPart) -> Place
+    ensures { λ r. ⌜ r .0 ≡ asPlace (firstPlace kind p) ⌝ }
 {
     if kind == 4 {
-        23 * (p.start as u32) + 1
+        as_place(23 * (p.start as u32) + 1)
     } else {
-        p.start as u32
+        Place(p.start)
     }
 }
 
 // The place that must lie within the mask: type 4's first, type 6's last.
-fn place_to_check(kind: u8, p: ClockPart) -> u32
-    ensures { λ r. ⌜ r ≡ placeToCheck kind p ⌝ }
+fn place_to_check(kind: u8, p: ClockPart) -> Place
+    ensures { λ r. ⌜ r .0 ≡ asPlace (placeToCheck kind p) ⌝ }
 {
     if kind == 4 {
-        return 23 * (p.start as u32) + 1;
+        return as_place(23 * (p.start as u32) + 1);
     }
     let end = p.start as u32 + p.count as u32;
-    if end == 0 { 0 } else { end - 1 }
+    if end == 0 {
+        return Place(0);
+    }
+    as_place(end - 1)
 }
 
 // The number for a place that no satellite has.
@@ -63,7 +78,7 @@ fn place_refusal(t: &[u8], kind: u8, p: ClockPart) -> u8
     if held_mask::mask_iodp(t) != p.iodp {
         return 14;
     }
-    if (held_mask::set_count(t) as u32) < place_to_check(kind, p) {
+    if held_mask::set_count(t) < place_to_check(kind, p).0 {
         return place_number(kind);
     }
     0

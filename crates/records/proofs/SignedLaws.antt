@@ -7,7 +7,7 @@ use Prim.Native.Nat.{ℕ, zero, suc, _-_, _*_, _^_, _<_}
 use native.Mathlib.Nat.{not-suc-le-zero, pow-suc}
 use native.Mathlib.Decide.{decLt}
 use native.Mathlib.Omega.{arith}
-use lib.IntN.{ℤ, pos, negsuc, _-ℤ_}
+use lib.IntN.{ℤ, pos, negsuc, _-ℤ_, natAbs}
 use lib.Signed.{mag, ltZ}
 use borrow.Author.Tests.{lt-ltb, le-ltb, ltb-true}
 use Rattle.bits.specs.Bits.{fieldAt}
@@ -65,3 +65,12 @@ neg-raw half (negsuc m) e = refl
 
 pub not-neg : (m : ℕ) → ltZ (negsuc m) (pos 0) ≡ false → ⊥
 not-neg m e = true≢false e
+
+-- a number that is not negative is its own bits, and its own magnitude
+pub pos-raw : (half : ℕ) (z : ℤ) → ltZ z (pos 0) ≡ false → rawHalf half z ≡ mag z
+pos-raw half (pos x) e = refl
+pos-raw half (negsuc m) e = absurd (not-neg m e)
+
+pub pos-mag : (z : ℤ) → ltZ z (pos 0) ≡ false → natAbs z ≡ mag z
+pos-mag (pos x) e = refl
+pos-mag (negsuc m) e = absurd (not-neg m e)

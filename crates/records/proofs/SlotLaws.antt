@@ -6,17 +6,13 @@ use mathlib.Core.List.{List, [], _∷_}
 use Prim.Native.Nat.{ℕ, zero, suc, _+_, _-_, _≤_, _<_}
 use native.Mathlib.Nat.{not-suc-le-zero}
 use native.Mathlib.Decide.{ℕ-discrete}
-use native.Mathlib.Numerals.{add-one}
 use native.Mathlib.Omega.{arith}
 use lib.ListN.{length, getD, drop, take, drop-of-length-le}
-use lib.Seq.{drop-cons}
 use borrow.Author.Tests.{eq-eqb, ne-eqb}
+use Rattle.bits.proofs.TableLaws.{drop-one}
 use Rattle.records.specs.Slots.{setCount, nthFrom}
 
 -- a turn of a walk over a mask, at entry i
-drop-one : {A : Type 0} (l : List A) (i : ℕ) (d : A) → i < length l → drop i l ≡ getD l i d ∷ drop (i + 1) l
-drop-one l i d h = rw (add-one, drop-cons l i d)
-
 module _ (m : List Bool) (i k n : ℕ) (h : i < length m) where
   pub nth-hit : getD m i false ≡ true → n ≡ 1 → nthFrom (drop i m) k n ≡ k
   unfolding nthFrom

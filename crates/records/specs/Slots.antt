@@ -2,7 +2,7 @@
 use Prim.Native.Nat.{ℕ, suc, _+_, _-_}
 use mathlib.Core.Bool.{Bool, true, false, _&&_}
 use mathlib.Core.List.{List, [], _∷_}
-use lib.Dec.{eqb, leb}
+use lib.Dec.{eqb, ltb, leb}
 use Rattle.bits.specs.Pick.{pick}
 use Rattle.records.specs.declared.slots.System.{System}
 use Rattle.records.specs.declared.slots.System.the-variants.{Reserved, BeiDou, Gps, Galileo, Glonass}
@@ -16,6 +16,10 @@ satelliteOf s =
     (pick (leb s 100) (record { system = Gps; number = s - 63 })
     (pick (leb s 137) (record { system = Galileo; number = s - 100 })
     (pick (leb s 174) (record { system = Glonass; number = s - 137 }) (record { system = Reserved; number = 0 })))))
+
+-- 01, 11: a slot above 255 is refused: it names nothing, as the blank's 0 does
+abbrev pub slotNamed : ℕ → ℕ
+slotNamed x = pick (ltb x 256) x 0
 
 -- 01: how many bits of a mask are set
 unfoldable pub setCount : List Bool → ℕ

@@ -1,6 +1,6 @@
 // Slots, places and systems: 01, "Slots and places".
 ghost use mathlib.Core.Path.{_≡_};
-ghost use Rattle.records.specs.Slots.{satelliteOf};
+ghost use Rattle.records.specs.Slots.{satelliteOf, slotNamed};
 
 // A slot number: 1 to 255; 0 names nothing.
 pub struct Slot(pub u8);
@@ -21,6 +21,13 @@ pub enum System {
 pub struct Satellite {
     pub system: System,
     pub number: u8,
+}
+
+// The slot that a record's Sat Slot says. What is above 255 names nothing, as 0 does.
+pub fn slot_named(x: u16) -> Slot
+    ensures { λ r. ⌜ r .0 ≡ slotNamed x ⌝ }
+{
+    if x < 256 { Slot(x as u8) } else { Slot(0) }
 }
 
 // The satellite of a slot; reserved, number 0, where no system has it.

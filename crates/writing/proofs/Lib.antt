@@ -1,4 +1,3 @@
-pub mod RawLaws
 pub mod FitLaws
 pub mod RoomLaws
 pub mod TakenLaws

@@ -29,7 +29,7 @@ use Rattle.writing.specs.Fits.{clockVals, orbitVals, headVals, clockRow, orbitR
 use Rattle.written_back.proofs.RawBack.{raw-or-read}
 use Rattle.written_back.proofs.WithinLaws.{within-fits, all-fits, parts-fit}
 
--- each value is the field of s in its place, or 0
+-- each value is the field of s at its offset, or 0
 abbrev pub Said : List ℕ → ℕ → List ℕ → List ℕ → Type 0
 Said s at [] [] = Unit {0}
 Said s at [] (v ∷ vs) = ⊥

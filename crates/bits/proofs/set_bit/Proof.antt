@@ -10,8 +10,8 @@ use Rattle.bits.proofs.set_bit.Reads as reads
 use Rattle.bits.proofs.set_bit.Lts as lts
 use Rattle.bits.proofs.with_bit.Reads as with-bit-reads
 
-abbrev place : ℕ → ℕ → ℕ
-place at k = at / 8 + (at % 8 + k) / 8
+abbrev offset : ℕ → ℕ → ℕ
+offset at k = at / 8 + (at % 8 + k) / 8
 
 add-m : tie.Need-add-m
 add-m c = search needs
@@ -23,18 +23,18 @@ slice-read-x : tie.Need-slice-read-x
 slice-read-x c = search needs
 
 cast-x : tie.Need-cast-x
-cast-x c = omega (arith, c .slice-known2 .given (place (c .before .before .before .args .at) (c .before .before .before .args .k)))
+cast-x c = omega (arith, c .slice-known2 .given (offset (c .before .before .before .args .at) (c .before .before .before .args .k)))
 
 sub-h : tie.Need-sub-h
 sub-h c = search needs
 
 with-bit-requires : tie.Need-with-bit-requires
-with-bit-requires c κs = (c .slice-known2 .given (place (c .before .before .before .args .at) (c .before .before .before .args .k)) .fits, omega arith, omega arith)
+with-bit-requires c κs = (c .slice-known2 .given (offset (c .before .before .before .args .at) (c .before .before .before .args .k)) .fits, omega arith, omega arith)
 
 cast-room : tie.Need-cast-room
 cast-room c =
     let a = c .before .before .before .before .args in
-    let j = place (a .at) (a .k) in
+    let j = offset (a .at) (a .k) in
     omega (
       arith,
       byte-lt (getD (a .room .now) j 0) (7 - (a .at % 8 + a .k) % 8) (a .b) (c .before .slice-known2 .given j .fits) (omega arith) (omega arith),

@@ -4,14 +4,14 @@ use Prim.Native.Nat.{_-_, _≤_}
 use mathlib.Core.Path.{_≡_, refl, sym, _∙_}
 use lib.ListN.{length, drop}
 use Rattle.bits.specs.Bits.{putsAt}
-use Rattle.d1_subframes.specs.Subframe.{infoWidths, placeOf, infosOf, dataOf}
+use Rattle.d1_subframes.specs.Subframe.{infoWidths, offsetOf, infosOf, dataOf}
 use Rattle.d1_subframes.proofs.LoopLaws.{info-step, info-end}
 use Rattle.d1_subframes.proofs.data_of.Statement.{statement}
 use Rattle.d1_subframes.proofs.data_of.Tie as tie
 
 abbrev Inv-loop : tie.InvT-loop
 Inv-loop s out₀ i₀ out i =
-    (i ≤ 10) × (length out ≡ 28) × (putsAt out (placeOf i) (drop i infoWidths) (drop i (infosOf s)) ≡ dataOf s)
+    (i ≤ 10) × (length out ≡ 28) × (putsAt out (offsetOf i) (drop i infoWidths) (drop i (infosOf s)) ≡ dataOf s)
 
 abbrev μ-loop : tie.MeasureT-loop
 μ-loop s out₀ i₀ out i = 10 - i
@@ -26,8 +26,8 @@ info-at-requires c κs = search needs
 slice-aggregate-put : tie.Need-slice-aggregate-put Inv-loop μ-loop
 slice-aggregate-put c = search needs
 
-place-of-requires : tie.Need-place-of-requires Inv-loop μ-loop
-place-of-requires c κs = search needs
+offset-of-requires : tie.Need-offset-of-requires Inv-loop μ-loop
+offset-of-requires c κs = search needs
 
 width-of-requires : tie.Need-width-of-requires Inv-loop μ-loop
 width-of-requires c κs = search needs
@@ -51,7 +51,7 @@ loop-again c =
     let l = v .before .before .loop in (
       omega arith,
       b .put .kept .0 ∙ l .inv .1,
-      rw (b .put .ensures, b .before .width-of .ensures, b .before .before .place-of .ensures, v .info-at .ensures)
+      rw (b .put .ensures, b .before .width-of .ensures, b .before .before .offset-of .ensures, v .info-at .ensures)
           (sym (info-step _ (l .out) (l .i) (omega arith)) ∙ l .inv .2),
     )
 
@@ -67,7 +67,7 @@ data-of-spec =
     loop-holds
     info-at-requires
     slice-aggregate-put
-    place-of-requires
+    offset-of-requires
     width-of-requires
     cast-put
     put-requires

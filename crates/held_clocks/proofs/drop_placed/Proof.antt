@@ -19,8 +19,8 @@ abbrev μ-loop : tie.MeasureT-loop
 loop-holds : tie.Need-loop-holds Inv-loop μ-loop
 loop-holds c = (omega arith, refl, sym (drop-start clocksKept clockOf clockBytes 12 _ 260))
 
-add-drop-clock : tie.Need-add-drop-clock Inv-loop μ-loop
-add-drop-clock c = search needs
+add-t7 : tie.Need-add-t7 Inv-loop μ-loop
+add-t7 c = search needs
 
 drop-clock-requires : tie.Need-drop-clock-requires Inv-loop μ-loop
 drop-clock-requires c κs = search needs
@@ -53,7 +53,7 @@ drop-placed-spec =
     Inv-loop
     μ-loop
     loop-holds
-    add-drop-clock
+    add-t7
     drop-clock-requires
     add-i
     loop-less

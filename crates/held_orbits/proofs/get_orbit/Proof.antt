@@ -1,4 +1,4 @@
--- The place's first byte decides; each field is what its bytes say.
+-- The first byte decides; each field is what its bytes say.
 use borrow.Author.Needs.{needs}
 use mathlib.Core.Path.{_≡_, _∙_, ap, ap₂}
 use Rattle.lent.specs.Digits.{zagOf}
@@ -11,12 +11,12 @@ use Rattle.held_orbits.proofs.ReadLaws.{orbit-none, orbit-some, orbit-m
 use Rattle.held_orbits.proofs.get_orbit.Statement.{statement}
 use Rattle.held_orbits.proofs.get_orbit.Tie as tie
 
--- a place lies within the ledger
-small : (c : tie.After-orbit-place) → c .orbit-place .result < 9440
+-- an offset lies within the ledger
+small : (c : tie.After-orbit-offset) → c .orbit-offset .result < 9440
 small c = search needs
 
-orbit-place-requires : tie.Need-orbit-place-requires
-orbit-place-requires c κs = search needs
+orbit-offset-requires : tie.Need-orbit-offset-requires
+orbit-offset-requires c κs = search needs
 
 byte-requires : tie.Need-byte-requires
 byte-requires c κs = search needs
@@ -27,8 +27,8 @@ no-orbit-requires c κs = search needs
 returns : tie.Need-returns
 returns c =
     let a = c .before .before .before .before .before .args in
-    let e = c .before .before .before .orbit-place .ensures in
-    c .no-orbit .ensures ∙ orbit-none (a .t .now) (a .slot) _ e (rw (c .before .before .byte .ensures) at (c .before .if1 .taken))
+    let e = c .before .before .before .orbit-offset .ensures in
+    c .no-orbit .ensures ∙ orbit-none (a .t .now) (a .slot .0) _ e (rw (c .before .before .byte .ensures) at (c .before .if1 .taken))
 
 add-four : tie.Need-add-four
 add-four c = fits-on _ (small (c .before .before)) (lit< tt)
@@ -113,7 +113,7 @@ returns-2 c =
     let c9 = c6 .before .before .before in
     let c12 = c9 .before .before .before in
     let a = c12 .before .before .before .before .before .args in
-    let p = c12 .before .before .before .orbit-place in
+    let p = c12 .before .before .before .orbit-offset in
     let b = c12 .before .before .byte in
     let n = c12 .before .if1 .left in
     orbit-made
@@ -125,13 +125,13 @@ returns-2 c =
     (back2 (c3 .before .before) ∙ c3 .before .before .zag2 .ensures ∙ ap zagOf (c6 .two3 .ensures))
     (back3 c3 ∙ c3 .zag3 .ensures ∙ ap zagOf (c3 .before .two4 .ensures))
     (c .held-ura .ensures ∙ ap₂ heldUra (c .before .before .byte4 .ensures) (c .before .four2 .ensures))
-    ∙ orbit-some (a .t .now) (a .slot) (p .result) (p .ensures) (rw (b .ensures) at n)
+    ∙ orbit-some (a .t .now) (a .slot .0) (p .result) (p .ensures) (rw (b .ensures) at n)
 
 pub get-orbit-spec : {M : Type 1} → statement M
 get-orbit-spec =
     tie.close
     (tie.spec
-    orbit-place-requires
+    orbit-offset-requires
     byte-requires
     no-orbit-requires
     returns

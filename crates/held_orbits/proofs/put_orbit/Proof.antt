@@ -1,28 +1,18 @@
--- Slot 0 and slots above 255 are none; any other slot's bytes are stored at its place.
+-- Slot 0 is none; any other slot's bytes are stored at its offset.
 use borrow.Author.Needs.{needs}
 use native.Mathlib.Omega.{arith}
 use mathlib.Core.Path.{sym}
-use Rattle.lent.proofs.HeldLaws.{put-none, put-far, put-slot}
+use Rattle.lent.proofs.HeldLaws.{put-none, put-slot}
 use Rattle.held_orbits.specs.Orbits.{orbitOf, orbitBytes}
 use Rattle.held_orbits.proofs.OrbitLaws.{orbit-long}
 use Rattle.held_orbits.proofs.put_orbit.Statement.{statement}
 use Rattle.held_orbits.proofs.put_orbit.Tie as tie
 
 returns : tie.Need-returns
-returns c =
-    let a = c .before .before .args in
-    rw (c .if1 .taken) (sym (put-none orbitOf orbitBytes 24 orbit-long (a .t .now) 3320 (a .h)))
+returns c = sym (put-none orbitOf orbitBytes 24 orbit-long _ 3320 _ _ (omega arith))
 
-returns-2 : tie.Need-returns-2
-returns-2 c =
-    let a = c .before .before .before .args in
-    sym (put-far orbitOf orbitBytes 24 orbit-long (a .t .now) 3320 (a .slot) (a .h) (omega arith))
-
-cast-orbit-place : tie.Need-cast-orbit-place
-cast-orbit-place c = search needs
-
-orbit-place-requires : tie.Need-orbit-place-requires
-orbit-place-requires c κs = search needs
+orbit-offset-requires : tie.Need-orbit-offset-requires
+orbit-offset-requires c κs = search needs
 
 orbit-bytes-requires : tie.Need-orbit-bytes-requires
 orbit-bytes-requires c κs = search needs
@@ -36,22 +26,20 @@ store-requires c κs = search needs
 same-length : tie.Need-same-length
 same-length c = search needs
 
-returns-3 : tie.Need-returns-3
-returns-3 c =
+returns-2 : tie.Need-returns-2
+returns-2 c =
     let c6 = c .before .before .before .before .before .before in
     let a = c6 .before .before .before .before .args in
-    rw (c .before .before .store .ensures, c6 .orbit-place .ensures, c .before .before .before .before .before .orbit-bytes .ensures) (sym (put-slot orbitOf orbitBytes 24 orbit-long (a .t .now) 3320 (a .slot) (a .h) (omega arith) (omega arith)))
+    rw (c .before .before .store .ensures, c6 .orbit-offset .ensures, c .before .before .before .before .before .orbit-bytes .ensures) (sym (put-slot orbitOf orbitBytes 24 orbit-long (a .t .now) 3320 (a .slot .0) (a .h) (omega arith) (omega arith)))
 
 pub put-orbit-spec : {M : Type 1} → statement M
 put-orbit-spec =
     tie.close
     (tie.spec
     returns
-    returns-2
-    cast-orbit-place
-    orbit-place-requires
+    orbit-offset-requires
     orbit-bytes-requires
     slice-aggregate-store
     store-requires
     same-length
-    returns-3)
+    returns-2)

@@ -3,7 +3,7 @@ use native.Mathlib.Omega.{arith}
 use Prim.Native.Nat.{ℕ, zero, suc, _+_, _*_, _-_, _/_, _%_, _^_, _≤_, _<_}
 use mathlib.Core.Path.{_≡_, sym, ap, _∙_, refl, subst}
 use lib.ListN.{length, getD}
-use Rattle.parity.proofs.UnpackedLaws.{four-bytes}
+use Rattle.bits.proofs.WindowLaws.{four-bytes}
 use Rattle.parity.proofs.four.Statement.{statement}
 use Rattle.parity.proofs.four.Tie as tie
 

@@ -1,8 +1,12 @@
 use borrow.Author.Needs.{needs}
 use borrow.Author.Tests.{not-true, not-false}
+use native.Mathlib.Omega.{arith}
+use Prim.Native.Nat.{_≤_}
 use mathlib.Core.Path.{sym, _∙_}
+use Rattle.records.specs.Slots.{setCount}
 use Rattle.held_mask.specs.Mask.{maskAt}
-use Rattle.places.proofs.KeepLaws.{place-free, place-absent, place-ssr, place-iodp, place-past, place-good}
+use Rattle.held_mask.proofs.MaskLaws.{length-bits}
+use Rattle.places.proofs.KeepLaws.{place-free, place-absent, place-ssr, place-iodp, place-past, place-good, count-le, as-past, as-within}
 use Rattle.places.proofs.place_refusal.Statement.{statement}
 use Rattle.places.proofs.place_refusal.Tie as tie
 
@@ -53,9 +57,6 @@ returns-4 c =
 set-count-requires : tie.Need-set-count-requires
 set-count-requires c κs = search needs
 
-cast-if5 : tie.Need-cast-if5
-cast-if5 c = search needs
-
 place-to-check-requires : tie.Need-place-to-check-requires
 place-to-check-requires c κs = search needs
 
@@ -65,7 +66,7 @@ place-number-requires c κs = search needs
 returns-5 : tie.Need-returns-5
 returns-5 c =
     let c5 = c .before in
-    let c4 = c5 .before .before .before in
+    let c4 = c5 .before .before .before .before in
     let c3 = c4 .before .before .before in
     let c2 = c3 .before .before .before in
     let c1 = c2 .before .before in
@@ -75,11 +76,12 @@ returns-5 c =
     let ssr = sym (c3 .before .before .mask-ssr .ensures) ∙ c3 .if3 .left in
     let iodp = sym (c4 .before .before .mask-iodp .ensures) ∙ c4 .if4 .left in
     let past = place-past (maskAt (a .t .now)) (a .kind) (a .p) needed has ssr iodp in
-    c .place-number .ensures ∙ sym (past (rw (c5 .before .before .set-count .ensures, c5 .before .place-to-check .ensures) at (c5 .if5 .taken)))
+    let near : setCount (maskAt (a .t .now) .bits) ≤ 255 = omega (arith, count-le (maskAt (a .t .now) .bits), length-bits (a .t .now)) in
+    c .place-number .ensures ∙ sym (past (as-past _ _ near (rw (c5 .before .before .before .set-count .ensures, c5 .before .before .place-to-check .ensures) at (c5 .if5 .taken))))
 
 returns-6 : tie.Need-returns-6
 returns-6 c =
-    let c4 = c .before .before .before in
+    let c4 = c .before .before .before .before in
     let c3 = c4 .before .before .before in
     let c2 = c3 .before .before .before in
     let c1 = c2 .before .before in
@@ -88,7 +90,9 @@ returns-6 c =
     let has = sym (c2 .before .has-mask .ensures) ∙ not-false _ (c2 .if2 .left) in
     let ssr = sym (c3 .before .before .mask-ssr .ensures) ∙ c3 .if3 .left in
     let iodp = sym (c4 .before .before .mask-iodp .ensures) ∙ c4 .if4 .left in
-    sym (place-good (maskAt (a .t .now)) (a .kind) (a .p) needed has ssr iodp (rw (c .before .before .set-count .ensures, c .before .place-to-check .ensures) at (c .if5 .left)))
+    let near : setCount (maskAt (a .t .now) .bits) ≤ 255 = omega (arith, count-le (maskAt (a .t .now) .bits), length-bits (a .t .now)) in
+    let good = place-good (maskAt (a .t .now)) (a .kind) (a .p) needed has ssr iodp in
+    sym (good (as-within _ _ near (rw (c .before .before .before .set-count .ensures, c .before .before .place-to-check .ensures) at (c .if5 .left))))
 
 pub place-refusal-spec : {M : Type 1} → statement M
 place-refusal-spec =
@@ -103,7 +107,6 @@ place-refusal-spec =
     mask-iodp-requires
     returns-4
     set-count-requires
-    cast-if5
     place-to-check-requires
     place-number-requires
     returns-5

@@ -6,8 +6,7 @@ use mir.Val.{toZ, ofZ}
 use lib.IntN.{pos}
 use lib.Signed.{mag, ltZ}
 use borrow.Author.Tests.{lt-ltb, le-ltb}
-use Rattle.records.proofs.SignedLaws.{neg-raw}
-use Rattle.writing.proofs.RawLaws.{pos-raw}
+use Rattle.records.proofs.SignedLaws.{neg-raw, pos-raw}
 use Rattle.writing.proofs.raw_or.Statement.{statement}
 use Rattle.writing.proofs.raw_or.Tie as tie
 

@@ -15,28 +15,25 @@ use Rattle.held_mask.proofs.PlaceLaws.{walk-on}
 use Rattle.held_mask.proofs.MaskLaws.{length-bits}
 use Rattle.held_mask.specs.Mask.{bitsAt, maskAt}
 use Rattle.places.specs.Keeps.{heldClock, byPlace}
-use Rattle.places.proofs.KeepLaws.{length-mapped, turn, stop, place-step, place-end, clocks-placed, placed-not-7}
+use Rattle.places.proofs.KeepLaws.{length-mapped, turn, stop, as-near, place-step, place-end, clocks-placed, placed-not-7}
 use Rattle.in_force.proofs.ViewLaws.{clock-bits}
 use Rattle.ledger.proofs.take.clocks_by_place.Statement.{statement}
 use Rattle.ledger.proofs.take.clocks_by_place.Tie as tie
 
 abbrev Inv-loop : tie.InvT-loop
-Inv-loop t₀ kind p ks first count from₀ n₀ j₀ t from n j =
+Inv-loop t₀ kind p ks count from₀ n₀ j₀ t from n j =
     (j ≤ 23)
     × (length (p .clocks) ≡ 23)
     × (length t ≡ length t₀)
     × (bitsAt t ≡ bitsAt t₀)
-    × (putClocks t (byPlace (heldClock true (p .epoch) (p .ssr)) (bitsAt t₀) (drop j (take (p .count) (p .clocks))) (first + j)) ≡ putClocks t₀ (byPlace (heldClock true (p .epoch) (p .ssr)) (bitsAt t₀) (take (p .count) (p .clocks)) first))
-    × ((k : ℕ) → nthFrom (drop from (bitsAt t₀)) (from + 1) (n + k) ≡ nthSet (bitsAt t₀) (first + j + k))
+    × (putClocks t (byPlace (heldClock true (p .epoch) (p .ssr)) (bitsAt t₀) (drop j (take (p .count) (p .clocks))) (n₀ .0 + j)) ≡ putClocks t₀ (byPlace (heldClock true (p .epoch) (p .ssr)) (bitsAt t₀) (take (p .count) (p .clocks)) (n₀ .0)))
+    × ((k : ℕ) → nthFrom (drop (from .0) (bitsAt t₀)) (from .0 + 1) (n .0 + k) ≡ nthSet (bitsAt t₀) (n₀ .0 + j + k))
 
 abbrev μ-loop : tie.MeasureT-loop
-μ-loop t₀ kind p ks first count from₀ n₀ j₀ t from n j = 23 - j
+μ-loop t₀ kind p ks count from₀ n₀ j₀ t from n j = 23 - j
 
 first-place-requires : tie.Need-first-place-requires Inv-loop μ-loop
 first-place-requires c κs = search needs
-
-cast-first : tie.Need-cast-first Inv-loop μ-loop
-cast-first c = record { fits = omega (arith, c .first-place .ensures, c .before .before .before .pre) }
 
 cast-count : tie.Need-cast-count Inv-loop μ-loop
 cast-count c = search needs
@@ -45,7 +42,7 @@ loop-holds : tie.Need-loop-holds Inv-loop μ-loop
 loop-holds c =
     let a = c .before .before .before .before .args in
     let p = a .p in
-    let first = c .before .first-place .result in
+    let first = c .first-place .result .0 in
     (omega arith, search (needs, length-mapped), refl, refl, ap (λ (n : ℕ). putClocks (a .t .now) (byPlace (heldClock true (p .epoch) (p .ssr)) (bitsAt (a .t .now)) (take (p .count) (p .clocks)) n)) (add-zero first), λ k. ap (λ (n : ℕ). nthSet (bitsAt (a .t .now)) (n + k)) (sym (add-zero first)))
 
 nth-after-requires : tie.Need-nth-after-requires Inv-loop μ-loop
@@ -59,9 +56,6 @@ array-copy-out-held-clock c = turn (c .before .before .before .loop .j) (c .befo
 
 held-clock-requires : tie.Need-held-clock-requires Inv-loop μ-loop
 held-clock-requires c κs = search needs
-
-cast-put-clock : tie.Need-cast-put-clock Inv-loop μ-loop
-cast-put-clock c = search needs
 
 put-clock-requires : tie.Need-put-clock-requires Inv-loop μ-loop
 put-clock-requires c κs = search needs
@@ -83,13 +77,13 @@ loop-again c =
     let l = c1 .loop in
     let a = c0 .args in
     let p = a .p in
-    let first = c1 .before .before .first-place .result in
+    let first = c1 .before .first-place .result .0 in
     let near = turn (l .j) (p .count) (c2 .before .before .loop-test .taken) in
     let records = take (p .count) (p .clocks) in
     let within : l .j < length records = omega (arith, length-take (p .count) (p .clocks)) in
     let bits = bitsAt (a .t .now) in
     let found = rw (l .inv .3) at (c2 .nth-after .ensures) in
-    let slot = found ∙ ap (nthFrom (drop (l .from) bits) (l .from + 1)) (sym (add-zero (l .n))) ∙ l .inv .5 0 ∙ ap (nthSet bits) (add-zero (first + l .j)) in
+    let slot = found ∙ ap (nthFrom (drop (l .from .0) bits) (l .from .0 + 1)) (sym (add-zero (l .n .0))) ∙ l .inv .5 0 ∙ ap (nthSet bits) (add-zero (first + l .j)) in
     let put = rw (c .before .before .before .before .before .held-clock .ensures, slot) at (c .before .before .before .put-clock .ensures) in
     let next : first + l .j + 1 ≡ first + (l .j + 1) = omega arith in
     let step =
@@ -103,7 +97,7 @@ loop-again c =
       rw (put, ← next) (sym step ∙ l .inv .4),
       λ k.
           let e : first + l .j + (1 + k) ≡ first + (l .j + 1) + k = omega arith in
-          rw (c .resumed .ensures) (walk-on bits (l .from) (l .n) (1 + k) _ (omega (arith, length-bits (a .t .now))) (omega arith) found) ∙ l .inv .5 (1 + k) ∙ ap (nthSet bits) e,
+          rw (c .resumed .ensures) (walk-on bits (l .from .0) (l .n .0) (1 + k) _ (omega (arith, length-bits (a .t .now))) (omega arith) found) ∙ l .inv .5 (1 + k) ∙ ap (nthSet bits) e,
     )
 
 same-length : tie.Need-same-length Inv-loop μ-loop
@@ -115,13 +109,13 @@ returns c =
     let c0 = c .before .before .before .before .before .before in
     let a = c0 .args in
     let p = a .p in
-    let first = c .before .before .before .first-place .result in
+    let first = c .before .before .first-place .result .0 in
     let records = take (p .count) (p .clocks) in
     let bits = bitsAt (a .t .now) in
     let end : length records ≤ l .j = ⊎-elim (λ h. omega (arith, length-take (p .count) (p .clocks))) (λ h. omega (arith, length-take (p .count) (p .clocks))) (stop (l .j) (p .count) (c .loop-test .left)) in
     sym (place-end clockBytes 12 260 (heldClock true (p .epoch) (p .ssr)) records (l .j) blankClock (l .t) bits (first + l .j) end)
     ∙ l .inv .4
-    ∙ ap (λ (n : ℕ). putClocks (a .t .now) (byPlace (heldClock true (p .epoch) (p .ssr)) bits records n)) (c .before .before .before .first-place .ensures)
+    ∙ ap (λ (n : ℕ). putClocks (a .t .now) (byPlace (heldClock true (p .epoch) (p .ssr)) bits records n)) (c .before .before .first-place .ensures ∙ as-near _ (c0 .pre .1))
     ∙ ap (putClocks (a .t .now)) (sym (clocks-placed (maskAt (a .t .now)) (a .kind) p (placed-not-7 (maskAt (a .t .now)) (a .kind) p (c0 .pre .0)) (c0 .pre .0)))
 
 pub clocks-by-place-spec : {M : Type 1} → statement M
@@ -130,15 +124,13 @@ clocks-by-place-spec =
     (tie.spec
     Inv-loop
     μ-loop
-    first-place-requires
-    cast-first
     cast-count
+    first-place-requires
     loop-holds
     nth-after-requires
     mul-held-clock
     array-copy-out-held-clock
     held-clock-requires
-    cast-put-clock
     put-clock-requires
     resumed-requires
     add-j

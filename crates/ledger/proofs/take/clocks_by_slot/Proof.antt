@@ -31,6 +31,9 @@ array-copy-out-k c = search needs
 held-clock-requires : tie.Need-held-clock-requires Inv-loop μ-loop
 held-clock-requires c κs = search needs
 
+slot-named-requires : tie.Need-slot-named-requires Inv-loop μ-loop
+slot-named-requires c κs = search needs
+
 put-clock-requires : tie.Need-put-clock-requires Inv-loop μ-loop
 put-clock-requires c κs = search needs
 
@@ -42,9 +45,9 @@ loop-less c = search needs
 
 loop-again : tie.Need-loop-again Inv-loop μ-loop
 loop-again c =
-    let l = c .before .before .before .before .before .before .before .loop in
-    let p = c .before .before .before .before .before .before .before .before .before .before .args .p in
-    let put = rw (c .before .before .before .before .held-clock .ensures) at (c .before .before .put-clock .ensures) in (
+    let l = c .before .before .before .before .before .before .before .before .loop in
+    let p = c .before .before .before .before .before .before .before .before .before .before .before .args .p in
+    let put = rw (c .before .before .before .before .before .held-clock .ensures, c .before .before .before .slot-named .ensures) at (c .before .before .put-clock .ensures) in (
       omega arith,
       l .inv .1,
       c .before .before .put-clock .kept .0 ∙ l .inv .2,
@@ -71,6 +74,7 @@ clocks-by-slot-spec =
     mul-k
     array-copy-out-k
     held-clock-requires
+    slot-named-requires
     put-clock-requires
     add-j
     loop-less

@@ -30,6 +30,9 @@ array-copy-out-o c = search needs
 held-orbit-requires : tie.Need-held-orbit-requires Inv-loop μ-loop
 held-orbit-requires c κs = search needs
 
+slot-named-requires : tie.Need-slot-named-requires Inv-loop μ-loop
+slot-named-requires c κs = search needs
+
 put-orbit-requires : tie.Need-put-orbit-requires Inv-loop μ-loop
 put-orbit-requires c κs = search needs
 
@@ -41,9 +44,9 @@ loop-less c = search needs
 
 loop-again : tie.Need-loop-again Inv-loop μ-loop
 loop-again c =
-    let l = c .before .before .before .before .before .before .before .loop in
-    let p = c .before .before .before .before .before .before .before .before .before .before .args .p in
-    let put = rw (c .before .before .before .before .held-orbit .ensures) at (c .before .before .put-orbit .ensures) in (
+    let l = c .before .before .before .before .before .before .before .before .loop in
+    let p = c .before .before .before .before .before .before .before .before .before .before .before .args .p in
+    let put = rw (c .before .before .before .before .before .held-orbit .ensures, c .before .before .before .slot-named .ensures) at (c .before .before .put-orbit .ensures) in (
       omega arith,
       l .inv .1,
       c .before .before .put-orbit .kept .0 ∙ l .inv .2,
@@ -70,6 +73,7 @@ orbits-by-slot-spec =
     mul-o
     array-copy-out-o
     held-orbit-requires
+    slot-named-requires
     put-orbit-requires
     add-j
     loop-less

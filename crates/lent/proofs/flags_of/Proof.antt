@@ -1,4 +1,4 @@
--- The bytes of the bits before entry i are filled in.
+-- The bytes of the flags before entry i are filled in.
 use borrow.Author.Needs.{needs}
 use native.Mathlib.Omega.{arith}
 use Prim.Native.Nat.{ℕ, _-_, _≤_}
@@ -8,10 +8,9 @@ use mathlib.Core.Path.{_≡_, _∙_}
 use lib.ListN.{drop, length-set, length, getD}
 use Rattle.bits.specs.Table.{table}
 use Rattle.bits.proofs.TableLaws.{fill-start, fill-step, fill-done}
-use Rattle.lent.specs.Digits.{flagOf}
-use Rattle.held_mask.specs.Mask.{flagsOf}
-use Rattle.held_mask.proofs.flags_of.Statement.{statement}
-use Rattle.held_mask.proofs.flags_of.Tie as tie
+use Rattle.lent.specs.Digits.{flagOf, flagsOf}
+use Rattle.lent.proofs.flags_of.Statement.{statement}
+use Rattle.lent.proofs.flags_of.Tie as tie
 
 abbrev Inv-loop : tie.InvT-loop
 Inv-loop bits out₀ i₀ out i = (i ≤ 255) × (length out₀ ≡ 255) × (length out ≡ 255) × (out ≡ table (λ (k : ℕ). flagOf (getD bits k false)) i ++ drop i out₀)

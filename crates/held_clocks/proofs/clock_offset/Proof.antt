@@ -1,6 +1,6 @@
 use borrow.Author.Needs.{needs}
-use Rattle.held_orbits.proofs.orbit_place.Statement.{statement}
-use Rattle.held_orbits.proofs.orbit_place.Tie as tie
+use Rattle.held_clocks.proofs.clock_offset.Statement.{statement}
+use Rattle.held_clocks.proofs.clock_offset.Tie as tie
 
 sub-result : tie.Need-sub-result
 sub-result c = search needs
@@ -20,5 +20,5 @@ returns c = search needs
 returns-2 : tie.Need-returns-2
 returns-2 c = search needs
 
-pub orbit-place-spec : {M : Type 1} → statement M
-orbit-place-spec = tie.close (tie.spec sub-result cast-result mul-result add-result returns returns-2)
+pub clock-offset-spec : {M : Type 1} → statement M
+clock-offset-spec = tie.close (tie.spec sub-result cast-result mul-result add-result returns returns-2)

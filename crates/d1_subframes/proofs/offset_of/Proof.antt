@@ -1,7 +1,7 @@
 use borrow.Author.Needs.{needs}
 use borrow.Author.Tests.{eq-eqb, ne-eqb}
-use Rattle.d1_subframes.proofs.place_of.Statement.{statement}
-use Rattle.d1_subframes.proofs.place_of.Tie as tie
+use Rattle.d1_subframes.proofs.offset_of.Statement.{statement}
+use Rattle.d1_subframes.proofs.offset_of.Tie as tie
 
 mul-result : tie.Need-mul-result
 mul-result c = search needs
@@ -15,5 +15,5 @@ returns c = rw (eq-eqb _ _ (c .if1 .taken))
 returns-2 : tie.Need-returns-2
 returns-2 c = rw (ne-eqb _ _ (c .if1 .left))
 
-pub place-of-spec : {M : Type 1} → statement M
-place-of-spec = tie.close (tie.spec mul-result add-result returns returns-2)
+pub offset-of-spec : {M : Type 1} → statement M
+offset-of-spec = tie.close (tie.spec mul-result add-result returns returns-2)
