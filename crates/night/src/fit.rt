@@ -33,7 +33,7 @@ fn age_of(ledger: &[u8], issue: u16, slot: u8, last: u32) -> u32 {
     let RowAnswer::Found(_) = answer else {
         return 0;
     };
-    let clock = held_clocks::get_clock(ledger, slot);
+    let clock = held_clocks::get_clock(ledger, Slot(slot));
     seconds_from(clock.epoch, last)
 }
 

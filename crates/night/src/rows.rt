@@ -94,8 +94,8 @@ fn put_slot_row(room: &mut [u8], at: usize, by: u8, ledger: &[u8], issue: u16, s
     let RowAnswer::Found(r) = answer else {
         return cursor_in(room, at);
     };
-    let orbit = held_orbits::get_orbit(ledger, slot);
-    let clock = held_clocks::get_clock(ledger, slot);
+    let orbit = held_orbits::get_orbit(ledger, Slot(slot));
+    let clock = held_clocks::get_clock(ledger, Slot(slot));
     let a = put_row(room, at, by, r);
     let b = put_next(room, a, by, orbit.epoch as u64);
     let c = put_next(room, b, by, clock.epoch as u64);
