@@ -45,10 +45,6 @@ count-of : (o : Option Row) → rowSize * foundCount (answerOf 0 o) ≡ length (
 count-of (some r) = refl
 count-of none = refl
 
-pub found-le : (a : RowAnswer) → foundCount a ≤ 1
-found-le (Found r) = omega arith
-found-le (Refused n) = omega arith
-
 module _ (f : ℕ → Option Row) (i n k : ℕ) (s t : List ℕ) (a : RowAnswer) where
   pub rows-turn : i < 255 → a ≡ answerOf 0 (f (i + 1)) → k ≡ n + foundCount a → t ≡ storeAt s (rowSize * n) (answerBytes a) →
       storeAt t (rowSize * k) (rowsBytes (rowsFrom f (255 - (i + 1)) (i + 1 + 1))) ≡ storeAt s (rowSize * n) (rowsBytes (rowsFrom f (255 - i) (i + 1)))

@@ -12,7 +12,8 @@ use Rattle.list.specs.declared.row.RowAnswer.the-variants.{Refused}
 use Rattle.list.proofs.AnswerLaws.{row-next}
 use Rattle.boundary.specs.Size.{rowSize}
 use Rattle.boundary.specs.Boundary.{rowsBytes}
-use Rattle.boundary.proofs.BoundaryLaws.{found-le, rows-turn, rows-over}
+use Rattle.list.proofs.AnswerLaws.{found-le}
+use Rattle.boundary.proofs.BoundaryLaws.{rows-turn, rows-over}
 use Rattle.quieuvodan.proofs.put_rows.Statement.{statement}
 use Rattle.quieuvodan.proofs.put_rows.Tie as tie
 
