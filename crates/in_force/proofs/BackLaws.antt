@@ -21,7 +21,7 @@ use Rattle.held_clocks.specs.Clocks.{noClock, clocksKept, clockOf, clocksAt}
 use Rattle.held_orbits.specs.Orbits.{noOrbit, orbitOf, orbitsAt}
 use Rattle.held_clocks.specs.declared.HeldClock.{HeldClock}
 use Rattle.held_orbits.specs.declared.HeldOrbit.{HeldOrbit}
-use Rattle.held_mask.specs.Mask.{HeldMask, noMask, sameMask, maskAt}
+use Rattle.held_mask.specs.Mask.{HeldMask, sameMask, maskAt}
 use Rattle.held_mask.proofs.MaskLaws.{mask-eq}
 use Rattle.places.specs.Keeps.{maskOf, orbitsOf, clocksOf, refusalUnder, verdictUnder}
 use Rattle.in_force.specs.Back.{maskInForce, refusalAfter, verdictAfter, accepted, maskBy, orbitBy, clockBy, orbitInForce, clockBack}
