@@ -7,7 +7,7 @@ use mathlib.Core.Option.{none, some}
 use native.Mathlib.Omega.{arith}
 use lib.ListN.{length}
 use Rattle.bits.specs.Pick.{pick}
-use Rattle.lookback.specs.Walk.{rows, countFrom, nthOf}
+use Rattle.lookback.specs.Walk.{countFrom, nthOf}
 use Rattle.lookback.proofs.WalkLaws.{rows-same, rows-found, found-rows, rows-rise, count-length}
 use Rattle.held_mask.specs.Size.{size}
 use Rattle.in_force.specs.Bytes.{fresh, runBytes, Holds}
