@@ -1,16 +1,14 @@
 -- The same bytes as a list of bits, fields appended one to another: what `putAt` and `putsAt` leave, said in that shape.
-use mathlib.Core.Path.{_≡_, refl, sym, ap, ap₂, _∙_, subst}
-use mathlib.Core.Logic.{dite, _≢_}
-use Prim.Native.Nat.{ℕ, zero, suc, _+_, _-_, _*_, _/_, _%_, _^_, _≤_, _<_}
+use mathlib.Core.Path.{_≡_, refl, sym, ap, ap₂, _∙_}
+use mathlib.Core.Logic.{dite}
+use Prim.Native.Nat.{ℕ, zero, suc, _+_, _*_, _/_, _%_, _≤_, _<_}
 use mathlib.Core.List.{List, [], _∷_, _++_, append-assoc, append-nil}
-use lib.ListN.{getD, set, length, drop, take, length-append, length-set, List·getD-append, take-append-drop, drop-of-length-le}
-use lib.Seq.{ext-getD, getD-set-same, getD-set-other, take-set-le, drop-set-lt, drop-cons, getD-at, take-suc, drop-drop, take-all, length-take-le, take-at, drop-at}
-use native.Mathlib.Nat.{mod-lt, add-suc, add-zero, eq-or-lt-of-le, le-of-suc-le-suc, not-suc-le-zero}
+use lib.ListN.{getD, set, length, drop, take, length-append, length-set, take-append-drop, drop-of-length-le}
+use lib.Seq.{ext-getD, getD-set-same, getD-set-other, take-set-le, drop-set-lt, drop-cons, drop-drop, length-take-le, take-at, drop-at}
+use native.Mathlib.Nat.{add-suc, add-zero}
 use native.Mathlib.Decide.{ℕ-discrete}
-use native.Mathlib.Numerals.{add-one}
 use native.Mathlib.Omega.{arith}
-use mathlib.Core.Logic.{⊎-elim}
-use Rattle.bits.specs.Bits.{bitAt, fieldAt, setBit, putAt, putsAt, total, Within}
+use Rattle.bits.specs.Bits.{bitAt, setBit, putAt, putsAt, total}
 use Rattle.bits.proofs.PutLaws.{bit-set-same, bit-set-other, length-setBit, length-put}
 use Rattle.bits.proofs.TableLaws.{length-table, getD-table}
 use Rattle.bits.specs.Table.{table}

@@ -1,15 +1,13 @@
 -- Laws of bytes stored into a room, of what is kept, and of a row of bytes.
-use mathlib.Core.Path.{_≡_, refl, sym, ap, ap₂, _∙_, subst}
-use mathlib.Core.Logic.{_⊎_, inl, inr, ⊎-elim, dite, _≢_}
-use Prim.Native.Nat.{ℕ, zero, suc, _+_, _-_, _*_, _/_, _%_, _≤_, _<_}
-use mathlib.Core.List.{List, [], _∷_, _++_}
-use lib.ListN.{getD, set, length, drop, take, length-append, length-set, List·getD-append, drop-of-length-le}
-use lib.Seq.{ext-getD, getD-set-same, getD-set-other, drop-cons, getD-at}
-use native.Mathlib.Nat.{not-suc-le-zero, eq-or-lt-of-le, le-of-suc-le-suc, add-zero}
-use native.Mathlib.Decide.{ℕ-discrete}
+use mathlib.Core.Path.{_≡_, refl, _∙_}
+use mathlib.Core.Logic.{_⊎_, inl, inr, ⊎-elim}
+use Prim.Native.Nat.{ℕ, zero, suc, _+_, _≤_, _<_}
+use mathlib.Core.List.{List, [], _∷_}
+use lib.ListN.{getD, set, length, drop, length-set, drop-of-length-le}
+use lib.Seq.{ext-getD, getD-set-same, getD-set-other, drop-cons}
+use native.Mathlib.Nat.{not-suc-le-zero, add-zero}
 use native.Mathlib.Numerals.{add-one}
 use native.Mathlib.Omega.{arith}
-use Rattle.bits.specs.Table.{table}
 use Rattle.bits.specs.Bytes.{storeAt, Kept, rowAt}
 use Rattle.bits.proofs.TableLaws.{length-table, getD-table, table-ext}
 

@@ -1,10 +1,10 @@
 -- Reading a field by bytes.
-use mathlib.Core.Path.{_≡_, refl, sym, ap, ap₂, _∙_, subst}
+use mathlib.Core.Path.{_≡_, sym, ap, ap₂, _∙_}
 use Prim.Native.Nat.{ℕ, zero, suc, _+_, _-_, _*_, _/_, _%_, _^_, _≤_, _<_, min}
 use mathlib.Core.List.{List}
-use lib.ListN.{getD, length}
+use lib.ListN.{getD}
 use lib.Pow.{pow-pos, pow-add, mod-pow-add, pow-mono}
-use native.Mathlib.Nat.{mod-lt, pow-suc, pow-succ', div-div-eq-div-mul, add-suc, add-zero, mul-one, add-assoc, mul-assoc, add-mul, mul-add, mod-one, mul-comm, le-mul-of-pos-right}
+use native.Mathlib.Nat.{pow-suc, div-div-eq-div-mul, add-suc, add-zero, mul-assoc, add-mul, mod-one, le-mul-of-pos-right}
 use native.Mathlib.Numerals.{add-one}
 use native.Mathlib.Omega.{arith}
 use Rattle.bits.specs.Bits.{bitAt, fieldAt}

@@ -1,10 +1,10 @@
 -- Laws of bits and fields, for any width.
-use mathlib.Core.Path.{_≡_, refl, sym, ap, ap₂, _∙_, subst}
+use mathlib.Core.Path.{_≡_, refl, sym, ap, _∙_}
 use Prim.Native.Nat.{ℕ, zero, suc, _+_, _-_, _*_, _/_, _%_, _^_, _≤_, _<_}
 use mathlib.Core.List.{List}
 use lib.ListN.{getD, length, List·getD-eq-default}
-use lib.Pow.{pow-pos, pow-mono}
-use native.Mathlib.Nat.{mod-lt, pow-suc, zero-div, zero-mod}
+use lib.Pow.{pow-mono}
+use native.Mathlib.Nat.{pow-suc, zero-div}
 use native.Mathlib.Numerals.{add-one}
 use native.Mathlib.Omega.{arith}
 use borrow.Author.Tests.{le-leb, lt-leb}

@@ -8,12 +8,11 @@ use lib.Seq.{getD-set-same, getD-set-other, set-out}
 use lib.Pow.{pow-pos, pow-add, high, low, field, mod-mod-pow, mod-pow-add, shr-lt, shl-exact}
 use lib.Dec.{lit<}
 use lib.Arith.{digits-lt}
-use native.Mathlib.Nat.{mod-lt, pow-suc, pow-succ', div-div-eq-div-mul, add-suc, one-mul, not-suc-le-zero, div-one}
+use native.Mathlib.Nat.{mod-lt, pow-suc, pow-succ', div-div-eq-div-mul, one-mul, not-suc-le-zero, div-one}
 use native.Mathlib.Decide.{decLt, ℕ-discrete}
 use native.Mathlib.Numerals.{add-one}
 use native.Mathlib.Omega.{arith}
 use Rattle.bits.specs.Bits.{bitAt, fieldAt, byteWith, setBit, putAt}
-use Rattle.bits.proofs.FieldLaws.{bit-split, bit-lt}
 
 -- ---- one byte
 byte-high : (x h b : ℕ) → byteWith x h b / 2 ^ h ≡ x / 2 ^ h / 2 * 2 + b

@@ -1,14 +1,14 @@
 -- Fields in a row: read back what was put, for any list of widths. And a list filled from the front.
 use mathlib.Core.Path.{_≡_, refl, sym, ap, ap₂, _∙_, subst}
 use mathlib.Core.Logic.{_⊎_, inl, inr, ⊎-elim}
-use Prim.Native.Nat.{ℕ, zero, suc, _+_, _-_, _*_, _/_, _%_, _^_, _≤_, _<_}
-use mathlib.Core.List.{List, [], _∷_, _++_, append-assoc}
-use lib.ListN.{getD, set, length, drop, take, drop-of-length-le}
-use lib.Seq.{drop-cons, set-at}
+use Prim.Native.Nat.{ℕ, zero, suc, _+_, _*_, _≤_, _<_}
+use mathlib.Core.List.{List, [], _∷_, _++_}
+use lib.ListN.{getD, length, drop, drop-of-length-le}
+use lib.Seq.{drop-cons}
 use native.Mathlib.Nat.{mod-eq-of-lt, add-assoc, add-zero, not-suc-le-zero, mul-suc, mul-le-mul-left, eq-or-lt-of-le, le-of-suc-le-suc}
 use native.Mathlib.Numerals.{add-one}
 use native.Mathlib.Omega.{arith}
-use Rattle.bits.specs.Bits.{bitAt, fieldAt, putAt, fieldsAt, putsAt, putRows, total, Within}
+use Rattle.bits.specs.Bits.{fieldAt, putAt, fieldsAt, putsAt, putRows, total, Within}
 use Rattle.bits.proofs.PutLaws.{field-put, field-put-other, length-put}
 
 pub length-puts : (s : List ℕ) (at : ℕ) (ws vs : List ℕ) → length (putsAt s at ws vs) ≡ length s

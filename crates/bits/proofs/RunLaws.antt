@@ -2,12 +2,11 @@
 use mathlib.Core.Path.{_≡_, refl, sym, ap, ap₂, _∙_, subst}
 use mathlib.Core.Logic.{⊎-elim}
 use mathlib.Core.List.{List, [], _∷_, _++_}
-use Prim.Native.Nat.{ℕ, zero, suc, _+_, _-_, _*_, _/_, _%_, _^_, _<_, _≤_}
-use native.Mathlib.Nat.{not-suc-le-zero, eq-or-lt-of-le, mod-lt, zero-lt-suc, pow-suc, zero-div, zero-add, add-assoc, suc-add, add-zero, lt-of-lt-of-le}
-use native.Mathlib.Numerals.{sub-one, add-one}
+use Prim.Native.Nat.{ℕ, zero, suc, _+_, _-_, _/_, _%_, _^_, _<_, _≤_}
+use native.Mathlib.Nat.{not-suc-le-zero, eq-or-lt-of-le, zero-div, zero-add, add-zero}
+use native.Mathlib.Numerals.{sub-one}
 use native.Mathlib.Omega.{arith}
-use lib.ListN.{getD, length, List·getD-eq-default}
-use lib.Pow.{pow-mono, pow-pos}
+use lib.ListN.{length, List·getD-eq-default}
 use Rattle.bits.specs.Bits.{bitAt, bitsFrom}
 
 pub bit-none : (s : List ℕ) (i : ℕ) → length s ≤ i / 8 → 0 ≡ bitAt s i

@@ -1,7 +1,7 @@
 -- A list by its elements, and a list filled from the front by a loop, of any type.
 use mathlib.Core.Path.{_≡_, refl, sym, ap, ap₂, _∙_}
 use mathlib.Core.Logic.{⊎-elim, dite, _≢_}
-use Prim.Native.Nat.{ℕ, zero, suc, _+_, _-_, _*_, _≤_, _<_}
+use Prim.Native.Nat.{ℕ, zero, suc, _+_, _≤_, _<_}
 use mathlib.Core.List.{List, [], _∷_, _++_, append-assoc, append-nil}
 use lib.ListN.{getD, set, length, drop, length-append, length-set, drop-of-length-le, List·getD-append}
 use lib.Seq.{drop-cons, set-at, getD-at, ext-getD, getD-set-same, getD-set-other}

@@ -1,11 +1,10 @@
 -- Laws of the sum of polynomials over the field of two, and of the product by x.
-use mathlib.Core.Path.{_≡_, refl, sym, ap, ap₂, _∙_, subst}
+use mathlib.Core.Path.{_≡_, refl, sym, ap, ap₂, _∙_}
 use mathlib.Core.Bool.{Bool, true, false}
-use mathlib.Core.Logic.{_⊎_, inl, inr, ⊎-elim}
-use Prim.Native.Nat.{ℕ, zero, suc, _+_, _-_, _*_, _/_, _%_, _^_, _<_, _≤_}
-use native.Mathlib.Nat.{not-suc-le-zero, le-of-suc-le-suc, mod-lt, zero-lt-suc, pow-suc, add-zero, zero-add, one-mul, zero-mul, mul-one, lt-of-lt-of-le, div-eq-of-lt, le-div-iff-mul-le, mul-lt-mul-of-pos-right, add-mul, mul-add, mul-assoc}
+use Prim.Native.Nat.{ℕ, zero, suc, _+_, _*_, _/_, _%_, _^_, _<_, _≤_}
+use native.Mathlib.Nat.{not-suc-le-zero, le-of-suc-le-suc, mod-lt, zero-lt-suc, pow-suc, add-zero, zero-add, one-mul, zero-mul, div-eq-of-lt, le-div-iff-mul-le, mul-lt-mul-of-pos-right, add-mul, mul-add, mul-assoc}
 use native.Mathlib.Omega.{arith}
-use lib.Arith.{bin-ind, digits-mod, digits-div}
+use lib.Arith.{bin-ind, digits-mod}
 use lib.Pow.{pow-pos, shr-lt, split}
 use native.Mathlib.Numerals.{one-add}
 use lib.Dec.{ltb, lit<}

@@ -1,6 +1,6 @@
 -- Whether some element of a list has a property, and the first number of a table of conditions.
 use Prim.Native.Nat.{ℕ}
-use mathlib.Core.Bool.{Bool, true, false, _||_}
+use mathlib.Core.Bool.{Bool, false, _||_}
 use mathlib.Core.List.{List, [], _∷_}
 use Rattle.bits.specs.Pick.{pick}
 

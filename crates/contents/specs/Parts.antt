@@ -1,7 +1,7 @@
 -- 01, Message fields, in order: the parts of a message and how they are read. Blank records are all zero, records past a count and absent parts too.
 use Prim.Native.Nat.{ℕ, _+_, _*_}
-use mathlib.Core.Bool.{Bool, true, false}
-use mathlib.Core.List.{List, [], _∷_}
+use mathlib.Core.Bool.{Bool, false}
+use mathlib.Core.List.{List}
 use lib.Dec.{eqb, ltb}
 use lib.ListN.{getD}
 use Rattle.bits.specs.Pick.{pick}

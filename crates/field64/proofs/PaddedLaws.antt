@@ -5,10 +5,8 @@ use Prim.Native.Nat.{ℕ, _+_, _%_, _<_, _≤_}
 use native.Mathlib.Decide.{ℕ-discrete}
 use native.Mathlib.Nat.{mod-eq-of-lt}
 use native.Mathlib.Omega.{arith}
-use lib.Dec.{eqb}
 use lib.ListN.{getD}
 use borrow.Author.Tests.{ne-eqb, lt-ltb, le-ltb}
-use Rattle.bits.specs.Pick.{pick}
 use Rattle.bits.proofs.TableLaws.{getD-table}
 use Rattle.field64.specs.Field.{product}
 use Rattle.field64.specs.Logarithms.{power, logFrom}

@@ -1,12 +1,12 @@
 -- Laws of the forms: their lengths, and the parts one after the other.
 use mathlib.Core.Path.{_≡_, refl, sym, _∙_}
-use mathlib.Core.Bool.{Bool}
 use Prim.Native.Nat.{ℕ, _*_, _/_, _%_}
 use mathlib.Core.List.{List, [], _∷_, _++_}
 use lib.ListN.{length, length-append}
 use native.Mathlib.Omega.{arith}
 use Rattle.bits.specs.Bytes.{storeAt}
 use Rattle.bits.proofs.TableLaws.{length-table}
+use Rattle.bits.specs.Table.{table}
 use Rattle.records.specs.declared.orbit.Orbit.{Orbit}
 use Rattle.records.specs.declared.clock.Clock.{Clock}
 use Rattle.contents.specs.declared.parts.MaskPart.{MaskPart}

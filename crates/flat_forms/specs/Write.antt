@@ -1,10 +1,8 @@
 -- The C boundary: the 488 bytes of contents and the 27 of a row. Numbers are high byte first, those with a sign in two's complement.
 use Prim.Native.Nat.{ℕ, zero, suc, _/_, _%_}
-use mathlib.Core.Bool.{Bool, false}
 use mathlib.Core.List.{List, [], _∷_, _++_}
 use lib.IntN.{ℤ}
 use lib.ListN.{getD}
-use Rattle.bits.specs.Table.{table}
 use Rattle.lent.specs.Digits.{flagsOf}
 use Rattle.records.specs.Signed.{rawHalf}
 use Rattle.records.specs.Orbit.{blankOrbit}

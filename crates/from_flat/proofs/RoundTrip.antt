@@ -1,10 +1,9 @@
 -- The bytes of contents say the contents, whatever numbers they hold, as long as numbers with a sign fit two bytes.
 use mathlib.Core.Path.{_≡_, refl, _∙_}
 use mathlib.Core.Logic.{⊎-elim}
-use mathlib.Core.Bool.{Bool, true, false}
+use mathlib.Core.Bool.{false}
 use Prim.Native.Nat.{ℕ, zero, suc, _+_, _*_, _<_, _≤_}
 use mathlib.Core.List.{List, _++_}
-use lib.Dec.{eqb}
 use lib.ListN.{getD, length, List·getD-append}
 use lib.Seq.{getD-append-add}
 use lib.Signed.{mag}
@@ -18,12 +17,10 @@ use Rattle.lent.proofs.DigitLaws.{pair-back, quad-back}
 use Rattle.records.specs.Orbit.{blankOrbit}
 use Rattle.records.specs.Clock.{blankClock}
 use Rattle.records.proofs.SignedLaws.{signed-raw}
-use Rattle.records.specs.declared.ura.Ura.{Ura}
-use Rattle.records.specs.declared.ura.Ura.the-variants.{Unknown, Quarters, Above}
 use Rattle.records.specs.declared.orbit.Orbit.{Orbit}
 use Rattle.records.specs.declared.clock.Clock.{Clock}
 use Rattle.contents.specs.declared.parts.Contents.{Contents}
-use Rattle.records.specs.Ura.{kindOf, quartersIn, heldUra}
+use Rattle.records.specs.Ura.{quartersIn}
 use Rattle.from_flat.specs.Read.{flagAt, flagsAt, clockNth, clocksAt, orbitNth, orbitsAt, maskIn, clocksIn, orbitsIn, contentsOf}
 use Rattle.flat_forms.specs.Write.{word, clockRow, orbitRow, rowsTo, maskHead, clockHead, orbitHead, maskBytes, clocksBytes, orbitsBytes, contentsBytes}
 use Rattle.flat_forms.proofs.StoreLaws.{length-rows}

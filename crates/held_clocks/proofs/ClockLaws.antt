@@ -1,23 +1,19 @@
 -- Laws of the clocks' form: a clock reads back as it was written, what the bytes say after each step, and what each step keeps.
-use mathlib.Core.Path.{_≡_, refl, sym, _∙_}
+use mathlib.Core.Path.{_≡_, refl, sym}
 use mathlib.Core.Logic.{_⊎_}
-use Prim.Native.Nat.{_+_, ℕ, _≤_}
+use Prim.Native.Nat.{ℕ, _≤_}
 use mathlib.Core.Bool.{true}
-use mathlib.Core.List.{List, [], _∷_, map}
-use lib.Dec.{eqb}
+use mathlib.Core.List.{List, map}
 use lib.ListN.{getD, length}
 use native.Mathlib.Omega.{arith}
 use Rattle.bits.specs.Bytes.{Kept}
-use Rattle.bits.specs.Table.{table}
-use Rattle.bits.proofs.TableLaws.{table-ext}
-use Rattle.lookback.specs.Store.{Named, put, putAll, unplaced}
-use Rattle.lent.specs.Digits.{flagOf, zigOf}
-use Rattle.lent.specs.Held.{heldsAt}
-use Rattle.lent.proofs.HeldLaws.{put-room, put-view, puts-room, puts-view, AllHeld, held-sound, helds-kept}
-use Rattle.lent.proofs.DropLaws.{one-room, drop-room, dropped-view}
+use Rattle.lookback.specs.Store.{Named, putAll, unplaced}
+use Rattle.lent.specs.Digits.{zigOf}
+use Rattle.lent.proofs.HeldLaws.{put-room, puts-room, puts-view, AllHeld, held-sound, helds-kept}
+use Rattle.lent.proofs.DropLaws.{drop-room, dropped-view}
 use Rattle.lent.proofs.DigitLaws.{pair-back, quad-back, zag-zig, flag-back}
 use Rattle.held_mask.specs.Size.{size}
-use Rattle.held_clocks.specs.Clocks.{clockAt, clockOffset, noClock, clocksKept, clockBytes, clockOf, clocksAt, putClock, putClocks, dropClock, droppedClocks}
+use Rattle.held_clocks.specs.Clocks.{clockAt, clockOffset, noClock, clocksKept, clockBytes, clockOf, clocksAt, putClock, putClocks, droppedClocks}
 use Rattle.held_clocks.specs.declared.HeldClock.{HeldClock}
 use Rattle.held_clocks.proofs.ReadLaws.{clock-none}
 
@@ -38,9 +34,6 @@ abbrev pub ClocksHeld : List (Named HeldClock) → Type 0
 ClocksHeld ns = AllHeld (λ (h : HeldClock). h .has) ns
 
 module _ (s : List ℕ) (long : length s ≡ size) where
-  pub clock-view : (slot : ℕ) (h : HeldClock) → h .has ≡ true → clocksAt (putClock s slot h) ≡ put (clocksAt s) slot h
-  clock-view slot h e = put-view clockOf clockBytes 12 clock-long s 260 slot h (omega arith) ∙ rw (clock-sound h e)
-
   pub clocks-view : (ns : List (Named HeldClock)) → ClocksHeld ns → clocksAt (putClocks s ns) ≡ putAll (clocksAt s) ns
   clocks-view ns a = puts-view clockOf clockBytes 12 clock-long s 260 ns (omega arith) (held-sound clockOf clockBytes 12 clock-long (λ (h : HeldClock). h .has) clock-sound ns a)
 
@@ -56,9 +49,6 @@ module _ (s : List ℕ) where
   pub clocks-room : (ns : List (Named HeldClock)) → Kept 260 3320 s (putClocks s ns)
   clocks-room ns = puts-room clockOf clockBytes 12 clock-long s 260 ns
 
-  pub drop-one-room : (slot : ℕ) → Kept 260 3320 s (dropClock s slot)
-  drop-one-room slot = one-room clocksKept clockOf clockBytes 12 clock-long s 260 slot
-
   pub dropped-room : (n : ℕ) → Kept 260 3320 s (droppedClocks s n)
   dropped-room n = drop-room clocksKept clockOf clockBytes 12 clock-long s 260 n
 
@@ -70,7 +60,3 @@ clocks-kept lo hi s t k o = helds-kept clockOf 12 260 lo hi s t k o
 module _ (s : List ℕ) (zeros : (j : ℕ) → getD s j 0 ≡ 0) where
   pub zero-clock : (slot : ℕ) → clockAt s slot ≡ noClock
   zero-clock slot = sym (clock-none s slot (clockOffset slot) refl (λ e. omega (arith, zeros (clockOffset slot))))
-
-  pub zero-clocks : clocksAt s ≡ table (λ (i : ℕ). noClock) 255
-  unfolding heldsAt
-  zero-clocks = table-ext _ _ 255 (λ i l. zero-clock (i + 1))

@@ -1,24 +1,20 @@
 -- Laws of the orbits' form: an orbit reads back as it was written, what the bytes say after each step, and what each step keeps.
-use mathlib.Core.Path.{_≡_, refl, sym, _∙_}
+use mathlib.Core.Path.{_≡_, refl, sym}
 use mathlib.Core.Logic.{_⊎_}
-use Prim.Native.Nat.{_+_, ℕ, _≤_}
+use Prim.Native.Nat.{ℕ, _≤_}
 use mathlib.Core.Bool.{true}
-use mathlib.Core.List.{List, [], _∷_}
-use lib.Dec.{eqb}
+use mathlib.Core.List.{List}
 use lib.ListN.{getD, length}
 use native.Mathlib.Omega.{arith}
 use Rattle.bits.specs.Bytes.{Kept}
-use Rattle.bits.specs.Table.{table}
-use Rattle.bits.proofs.TableLaws.{table-ext}
-use Rattle.lookback.specs.Store.{Named, put, putAll}
+use Rattle.lookback.specs.Store.{Named, putAll}
 use Rattle.lent.specs.Digits.{zigOf}
-use Rattle.lent.specs.Held.{heldsAt}
-use Rattle.lent.proofs.HeldLaws.{put-room, put-view, puts-room, puts-view, AllHeld, held-sound, helds-kept}
+use Rattle.lent.proofs.HeldLaws.{puts-room, puts-view, AllHeld, held-sound, helds-kept}
 use Rattle.lent.proofs.DigitLaws.{pair-back, quad-back, zag-zig}
 use Rattle.records.specs.Ura.{quartersIn}
 use Rattle.records.proofs.UraLaws.{kind-back}
 use Rattle.held_mask.specs.Size.{size}
-use Rattle.held_orbits.specs.Orbits.{orbitAt, orbitOffset, noOrbit, orbitBytes, orbitOf, orbitsAt, putOrbit, putOrbits}
+use Rattle.held_orbits.specs.Orbits.{orbitAt, orbitOffset, noOrbit, orbitBytes, orbitOf, orbitsAt, putOrbits}
 use Rattle.held_orbits.specs.declared.HeldOrbit.{HeldOrbit}
 use Rattle.held_orbits.proofs.ReadLaws.{orbit-none}
 
@@ -52,17 +48,11 @@ abbrev pub OrbitsHeld : List (Named HeldOrbit) → Type 0
 OrbitsHeld ns = AllHeld (λ (h : HeldOrbit). h .has) ns
 
 module _ (s : List ℕ) (long : length s ≡ size) where
-  pub orbit-view : (slot : ℕ) (h : HeldOrbit) → h .has ≡ true → orbitsAt (putOrbit s slot h) ≡ put (orbitsAt s) slot h
-  orbit-view slot h e = put-view orbitOf orbitBytes 24 orbit-long s 3320 slot h (omega arith) ∙ rw (orbit-sound h e)
-
   pub orbits-view : (ns : List (Named HeldOrbit)) → OrbitsHeld ns → orbitsAt (putOrbits s ns) ≡ putAll (orbitsAt s) ns
   orbits-view ns a = puts-view orbitOf orbitBytes 24 orbit-long s 3320 ns (omega arith) (held-sound orbitOf orbitBytes 24 orbit-long (λ (h : HeldOrbit). h .has) orbit-sound ns a)
 
 -- ---- what each step keeps, of bytes of any length
 module _ (s : List ℕ) where
-  pub orbit-room : (slot : ℕ) (h : HeldOrbit) → Kept 3320 9440 s (putOrbit s slot h)
-  orbit-room slot h = put-room orbitOf orbitBytes 24 orbit-long s 3320 slot h
-
   pub orbits-room : (ns : List (Named HeldOrbit)) → Kept 3320 9440 s (putOrbits s ns)
   orbits-room ns = puts-room orbitOf orbitBytes 24 orbit-long s 3320 ns
 
@@ -74,7 +64,3 @@ orbits-kept lo hi s t k o = helds-kept orbitOf 24 3320 lo hi s t k o
 module _ (s : List ℕ) (zeros : (j : ℕ) → getD s j 0 ≡ 0) where
   pub zero-orbit : (slot : ℕ) → orbitAt s slot ≡ noOrbit
   zero-orbit slot = sym (orbit-none s slot (orbitOffset slot) refl (λ e. omega (arith, zeros (orbitOffset slot))))
-
-  pub zero-orbits : orbitsAt s ≡ table (λ (i : ℕ). noOrbit) 255
-  unfolding heldsAt
-  zero-orbits = table-ext _ _ 255 (λ i l. zero-orbit (i + 1))

@@ -16,7 +16,7 @@ use Rattle.bits.proofs.ByteLaws.{kept-same, kept-trans, kept-wide, kept-store}
 use Rattle.contents.specs.declared.parts.MaskPart.{MaskPart}
 use Rattle.contents.specs.declared.parts.Contents.{Contents}
 use Rattle.lookback.specs.Store.{Named, putAll, getOr, kept, unplaced}
-use Rattle.lent.proofs.HeldLaws.{getD-helds}
+use Rattle.lent.proofs.HeldLaws.{getD-helds, held-kept}
 use Rattle.held_mask.specs.Size.{size}
 use Rattle.held_clocks.specs.Clocks.{clocksKept, clockOf, clocksAt, putClock, putClocks, droppedClocks, noClock, clockAt}
 use Rattle.held_orbits.specs.Orbits.{orbitOf, orbitsAt, putOrbits, noOrbit, orbitAt}
@@ -157,15 +157,9 @@ module _ (s : List ℕ) (prn : ℕ) where
     pub fresh-clock : clockAt (fresh s prn) slot ≡ noClock
     fresh-clock =
         let zeros = replicate {A = ℕ} (length s) 0 in
-        clock-listed (fresh s prn) slot p q
-        ∙ ap (λ (xs : List HeldClock). getD xs (slot - 1) noClock) (clocks-kept 0 1 zeros (fresh s prn) fresh-room (inr (omega arith)))
-        ∙ sym (clock-listed zeros slot p q)
-        ∙ zero-clock zeros (getD-zeros (length s)) slot
+        held-kept clockOf 12 260 0 1 zeros (fresh s prn) fresh-room (inr (omega arith)) slot p q ∙ zero-clock zeros (getD-zeros (length s)) slot
 
     pub fresh-orbit : orbitAt (fresh s prn) slot ≡ noOrbit
     fresh-orbit =
         let zeros = replicate {A = ℕ} (length s) 0 in
-        orbit-listed (fresh s prn) slot p q
-        ∙ ap (λ (xs : List HeldOrbit). getD xs (slot - 1) noOrbit) (orbits-kept 0 1 zeros (fresh s prn) fresh-room (inr (omega arith)))
-        ∙ sym (orbit-listed zeros slot p q)
-        ∙ zero-orbit zeros (getD-zeros (length s)) slot
+        held-kept orbitOf 24 3320 0 1 zeros (fresh s prn) fresh-room (inr (omega arith)) slot p q ∙ zero-orbit zeros (getD-zeros (length s)) slot

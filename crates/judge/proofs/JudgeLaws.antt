@@ -24,21 +24,20 @@ use Rattle.contents.specs.declared.parts.OrbitPart.{OrbitPart}
 use Rattle.contents.specs.declared.parts.Contents.{Contents}
 use Rattle.judge.specs.Judge.{isHigh, isNamed, isAgain, clockSlots, orbitSlots, reservedBit, refusalBy, refusalOf, maskRefusalOf, partsRefusalOf}
 
-pub high-none : (xs : List ℕ) → anyOf isNamed xs ≡ false → anyOf isHigh xs ≡ false
+-- where no slot is named, no slot has a property that 0 does not have
+none-named : (p : ℕ → List ℕ → Bool) → ((xs : List ℕ) → p 0 xs ≡ false) → (xs : List ℕ) → anyOf isNamed xs ≡ false → anyOf p xs ≡ false
 unfolding anyOf
-high-none [] e = refl
-high-none (x ∷ xs) e =
+none-named p o [] e = refl
+none-named p o (x ∷ xs) e =
     dite (ℕ-discrete x 0)
-    (λ z. rw z (high-none xs (rw z at e)))
+    (λ z. rw (z, o xs) (none-named p o xs (rw z at e)))
     (λ n. absurd (let h : true ≡ false = rw (ne-eqb x 0 n) at e in let z : _≡_ {A = ℕ} 0 1 = cc in omega arith))
 
+pub high-none : (xs : List ℕ) → anyOf isNamed xs ≡ false → anyOf isHigh xs ≡ false
+high-none = none-named isHigh (λ xs. refl)
+
 pub twice-none : (xs : List ℕ) → anyOf isNamed xs ≡ false → anyOf isAgain xs ≡ false
-unfolding anyOf
-twice-none [] e = refl
-twice-none (x ∷ xs) e =
-    dite (ℕ-discrete x 0)
-    (λ z. rw z (twice-none xs (rw z at e)))
-    (λ n. absurd (let h : true ≡ false = rw (ne-eqb x 0 n) at e in let z : _≡_ {A = ℕ} 0 1 = cc in omega arith))
+twice-none = none-named isAgain (λ xs. refl)
 
 pub slots-long : (ks : List Clock) → length (clockSlots ks) ≡ 23
 unfolding clockSlots

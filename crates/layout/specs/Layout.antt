@@ -1,12 +1,9 @@
 -- 01, Message fields, in order: what each type carries and how wide. A width of 0 is a field that the type does not have.
 use Prim.Native.Nat.{ℕ, _+_, _*_}
-use mathlib.Core.Bool.{Bool, true, false}
+use mathlib.Core.Bool.{true, false}
 use mathlib.Core.List.{List, [], _∷_}
 use lib.Dec.{eqb}
 use Rattle.bits.specs.Pick.{pick}
-use Rattle.bits.specs.Bits.{total}
-use Rattle.records.specs.Orbit.{orbitWidths}
-use Rattle.records.specs.Clock.{clockWidths}
 use Rattle.layout.specs.declared.Layout.{Layout}
 
 -- 01: epoch [17], reserved [4], IOD SSR [2], then IODP [4] and sub-type [5] or Slot_S [9] where the type has them

@@ -1,10 +1,11 @@
 // A whole log of frames, by what is in force after it.
 ghost use mathlib.Core.Path.{_≡_};
-ghost use Prim.Native.Nat.{_+_, _/_, _<_};
-ghost use lib.ListN.{length};
+ghost use Prim.Native.Nat.{_+_, _*_, _/_};
+ghost use lib.Dec.{ltb};
+ghost use Rattle.bits.specs.Pick.{pick};
 ghost use Rattle.verdict.specs.Verdict.{says, refusedBy};
 ghost use Rattle.ledger.specs.Open.{openRefusal};
-ghost use Rattle.in_force.specs.Bytes.{takeBytes, frameAt, runBytes, framesOf, Replayed};
+ghost use Rattle.in_force.specs.Bytes.{takeSays, takeBytes, frameAt, runBytes, framesOf, Replayed};
 use crate::Ledger;
 use crate::open::make_fresh;
 use crate::take::take_in;
@@ -18,15 +19,22 @@ pub fn frame_count(n: usize) -> usize
     if n % 125 == 0 { n / 125 } else { n / 125 + 1 }
 }
 
-// Frame i of a log, from 0, is taken.
-fn take_nth(t: &mut [u8], log: &[u8], i: usize)
-    requires { ⌜ i < (length (now log) + 124) / 125 ⌝ }
-    ensures { λ r. ⌜ now (t .exit) ≡ takeBytes (now (t .entry)) (frameAt (now (log .entry)) i) ⌝ }
+// Where frame i of a log of n bytes, from 0, begins; the end of the log where there is no such frame.
+fn frame_start(n: usize, i: usize) -> usize
+    ensures { λ r. ⌜ r ≡ pick (ltb (125 * i) n) (125 * i) n ⌝ }
 {
-    let a = 125 * i;
+    if i < frame_count(n) { 125 * i } else { n }
+}
+
+// Frame i of a log, from 0, is taken, or refused. Past the end of the log it is an empty one.
+pub fn take_nth(t: &mut [u8], log: &[u8], i: usize) -> Verdict
+    ensures verdict { λ r. ⌜ says r ≡ takeSays (now (t .entry)) (frameAt (now (log .entry)) i) ⌝ }
+    ensures bytes { λ r. ⌜ now (t .exit) ≡ takeBytes (now (t .entry)) (frameAt (now (log .entry)) i) ⌝ }
+{
+    let a = frame_start(log.len(), i);
     let left = log.len() - a;
     let e = if left < 125 { log.len() } else { a + 125 };
-    take_in(t, &log[a..e]);
+    take_in(t, &log[a..e])
 }
 
 // The frames of a log are taken in order.

@@ -128,12 +128,15 @@ module _ {A : Type 0} (of : List ℕ → A) (bytes : A → List ℕ) (w : ℕ) (
       puts-view t st ns (rw (put-room s st (n .at) (n .held) .long) fits) (so .1)
       ∙ rw (put-view s st (n .at) (n .held) fits, so .0)
 
--- the list is as it was where its bytes are
-pub helds-kept : {A : Type 0} (of : List ℕ → A) (w st lo hi : ℕ) (s t : List ℕ) → Kept lo hi s t → (st + w * 255 ≤ lo) ⊎ (hi ≤ st) → heldsAt of w t st ≡ heldsAt of w s st
-unfolding heldsAt heldAt
-helds-kept of w st lo hi s t k o =
-    table-ext _ _ 255 (λ i l.
-    ap of (row-kept (offset w st (i + 1)) w k (⊎-elim (λ g. inl (omega (arith, within w (i + 1) (omega arith) (omega arith)))) (λ g. inr (omega arith)) o)))
+-- a record, and the list, is as it was where its bytes are
+module _ {A : Type 0} (of : List ℕ → A) (w st lo hi : ℕ) (s t : List ℕ) (k : Kept lo hi s t) (o : (st + w * 255 ≤ lo) ⊎ (hi ≤ st)) where
+  pub held-kept : (slot : ℕ) → 1 ≤ slot → slot ≤ 255 → heldAt of w t st slot ≡ heldAt of w s st slot
+  unfolding heldAt
+  held-kept slot p q = ap of (row-kept (offset w st slot) w k (⊎-elim (λ g. inl (omega (arith, within w slot (omega arith) (omega arith)))) (λ g. inr (omega arith)) o))
+
+  pub helds-kept : heldsAt of w t st ≡ heldsAt of w s st
+  unfolding heldsAt
+  helds-kept = table-ext _ _ 255 (λ i l. held-kept (i + 1) (omega arith) (omega arith))
 
 pub getD-helds : {A : Type 0} (of : List ℕ → A) (w : ℕ) (s : List ℕ) (st i : ℕ) (d : A) → i < 255 → getD (heldsAt of w s st) i d ≡ heldAt of w s st (i + 1)
 unfolding heldsAt

@@ -4,7 +4,7 @@ use Prim.Native.Nat.{ℕ, zero, suc, _+_, _≤_}
 use mathlib.Core.List.{List}
 use native.Mathlib.Omega.{arith}
 use lib.ListN.{length, getD, replicate, List·getD-eq-default}
-use Rattle.lent.specs.Digits.{pairOf, quadOf, twoAt, fourAt}
+use Rattle.lent.specs.Digits.{pairOf, twoAt, fourAt}
 
 pub getD-zeros : (n j : ℕ) → getD (replicate {A = ℕ} n 0) j 0 ≡ 0
 getD-zeros zero j = refl

@@ -1,7 +1,7 @@
 -- Demand 3: the list by looking back over the frames handed in, newest first. Nothing here runs the ledger.
 use Prim.Native.Nat.{ℕ}
 use mathlib.Core.Bool.{Bool}
-use mathlib.Core.List.{List, []}
+use mathlib.Core.List.{List}
 use mathlib.Core.Option.{Option}
 use Rattle.lookback.specs.Walk.{rows}
 use Rattle.in_force.specs.Back.{maskInForce, orbitInForce, clockInForce}

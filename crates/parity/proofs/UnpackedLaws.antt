@@ -2,24 +2,19 @@
 use mathlib.Core.Path.{_≡_, refl, sym, ap, ap₂, subst, _∙_}
 use mathlib.Core.Bool.{Bool, true, not}
 use mathlib.Core.List.{List, [], _∷_, _++_}
-use Prim.Native.Nat.{ℕ, zero, suc, _+_, _-_, _*_, _/_, _%_, _^_, _<_, _≤_}
-use native.Mathlib.Nat.{add-zero, mul-assoc}
+use Prim.Native.Nat.{ℕ, suc, _+_, _*_, _/_, _%_, _^_, _<_, _≤_}
 use native.Mathlib.Numerals.{add-one}
 use native.Mathlib.Omega.{arith}
 use lib.Dec.{T, eqb, eqb→eq, ltb, ltb→lt}
 use lib.Bits.{bitXor, xor-zero-r}
-use lib.Pow.{high, low}
 use lib.ListN.{getD, length, drop, replicate, drop-of-length-le, List·getD-append}
 use lib.Seq.{drop-cons}
 use Rattle.bits.specs.Bits.{fieldAt}
 use Rattle.bits.specs.Table.{table}
 use Rattle.bits.proofs.Below.{all, both, both-left, both-right, below}
-use Rattle.bits.proofs.ByteWise.{field-split, field-byte}
-use Rattle.bits.proofs.FieldLaws.{field-lt}
 use Rattle.bits.proofs.WindowLaws.{field-part}
 use Rattle.bits.proofs.TableLaws.{length-table, getD-table, fill-step}
 use Rattle.bits.proofs.XorLaws.{xor-assoc}
-use Rattle.field64.specs.Field.{product}
 use Rattle.field64.specs.Padded.{padLog, padLogs, padPowers}
 use Rattle.field64.proofs.PaddedLaws.{padded}
 use Rattle.parity.specs.Parity.{symbolOf, rowSum, groupFails}

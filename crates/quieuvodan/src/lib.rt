@@ -6,7 +6,7 @@ ghost use Rattle.bits.specs.Bytes.{storeAt};
 ghost use Rattle.verdict.specs.Verdict.{says, numberIn};
 ghost use Rattle.message.specs.Read.{readingSays};
 ghost use Rattle.pieces.specs.Pieces.{pieceLength};
-ghost use Rattle.in_force.specs.Bytes.{takeSays, takeBytes, frameAt, runBytes, framesOf};
+ghost use Rattle.in_force.specs.Bytes.{runBytes, framesOf};
 ghost use Rattle.list.specs.Row.{rowSays};
 ghost use Rattle.list.specs.Rows.{foundCount, listIn};
 ghost use Rattle.boundary.specs.Size.{contentsSize, rowSize};
@@ -22,6 +22,7 @@ use frame::read_frame;
 use from_flat::contents_of;
 use ledger::open::make_fresh;
 use ledger::replay::frame_count;
+use ledger::replay::take_nth;
 use ledger::take::take_in;
 use list::issues::issues_refusal;
 use list::row::RowAnswer;
@@ -96,18 +97,6 @@ pub extern "C" fn qvd_take_detail(ledger: &mut [u8], frame: &[u8]) -> u32
         return 39;
     }
     detail(take_in(ledger, frame))
-}
-
-// Frame i of a log, from 0, is taken; its verdict.
-fn take_nth(t: &mut [u8], log: &[u8], i: usize) -> Verdict
-    requires { ⌜ i < (length (now log) + 124) / 125 ⌝ }
-    ensures answer { λ r. ⌜ says r ≡ takeSays (now (t .entry)) (frameAt (now (log .entry)) i) ⌝ }
-    ensures bytes { λ r. ⌜ now (t .exit) ≡ takeBytes (now (t .entry)) (frameAt (now (log .entry)) i) ⌝ }
-{
-    let a = 125 * i;
-    let left = log.len() - a;
-    let e = if left < 125 { log.len() } else { a + 125 };
-    take_in(t, &log[a..e])
 }
 
 // The frames of a log are taken in order, and the number of each verdict is kept.

@@ -1,10 +1,9 @@
 -- 01, Slots and places.
-use Prim.Native.Nat.{ℕ, suc, _+_, _-_}
-use mathlib.Core.Bool.{Bool, true, false, _&&_}
+use Prim.Native.Nat.{ℕ, _+_, _-_}
+use mathlib.Core.Bool.{Bool, _&&_}
 use mathlib.Core.List.{List, [], _∷_}
 use lib.Dec.{eqb, ltb, leb}
 use Rattle.bits.specs.Pick.{pick}
-use Rattle.records.specs.declared.slots.System.{System}
 use Rattle.records.specs.declared.slots.System.the-variants.{Reserved, BeiDou, Gps, Galileo, Glonass}
 use Rattle.records.specs.declared.slots.Satellite.{Satellite}
 

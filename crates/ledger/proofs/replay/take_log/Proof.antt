@@ -37,7 +37,7 @@ loop-again c =
     let a = c .before .before .before .before .before .before .before .before .before .args in (
       omega arith,
       c .before .before .take-nth .kept .0 ∙ l .inv .1,
-      c .before .before .take-nth .ensures
+      c .before .before .take-nth .ensures .1
           ∙ ap (λ (s : List ℕ). takeBytes s (frameAt (a .log .now) (l .i))) (l .inv .2)
           ∙ sym (run-step (a .t .now) (a .log .now) (l .i)),
     )
