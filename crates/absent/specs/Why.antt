@@ -6,8 +6,8 @@ use mathlib.Core.List.{List}
 use lib.Dec.{eqb}
 use Rattle.bits.specs.Pick.{pick}
 use Rattle.held_mask.specs.Mask.{HeldMask, bitAtSlot, maskAt}
-use Rattle.held_clocks.specs.Clocks.{clockAt}
-use Rattle.held_orbits.specs.Orbits.{orbitAt}
+use Rattle.held_clocks.specs.Clocks.{heldClockAt}
+use Rattle.held_orbits.specs.Orbits.{heldOrbitAt}
 use Rattle.held_clocks.specs.declared.HeldClock.{HeldClock}
 use Rattle.held_orbits.specs.declared.HeldOrbit.{HeldOrbit}
 use Rattle.list.specs.Row.{isKnown, usable, isAssigned, qualifies}
@@ -29,7 +29,7 @@ whyOf ssr o k issue =
 
 -- why, by what a ledger's bytes hold
 abbrev pub whyHeld : List ℕ → ℕ → ℕ → Why
-whyHeld s issue slot = whyOf (maskAt s .ssr) (orbitAt s slot) (clockAt s slot) issue
+whyHeld s issue slot = whyOf (maskAt s .ssr) (heldOrbitAt s slot) (heldClockAt s slot) issue
 
 -- for a slot of a satellite that the mask in force has: no reason is given exactly if it qualifies
 pub record Reasoned (m : HeldMask) (o : HeldOrbit) (k : HeldClock) (issue slot : ℕ) : Type 0 where

@@ -28,7 +28,7 @@ use Rattle.in_force.specs.Bytes.{fresh, takeSays, takeBytes}
 use Rattle.list.specs.Issues.{issuesRefusal}
 use Rattle.list.specs.Rows.{listIn, rowOfSlotAnswer}
 use Rattle.writing.specs.Write.{writeRefusal, written}
-use Rattle.from_flat.specs.Read.{contentsOf}
+use Rattle.from_flat.specs.Read.{flatContentsOf}
 use Rattle.flat_forms.proofs.FlatLaws.{contents-whole, row-whole}
 use Rattle.boundary.specs.Size.{contentsSize, rowSize, rowsSize}
 use Rattle.boundary.specs.Boundary.{sized, isContents, openAnswer, openRoom, takeAnswer, takeRoom, answerBytes, rowsBytes, rowsAnswer, rowsRoom, rowAnswer, rowRoom, readingAnswer, readingRoom, readAnswer, readRoom, frameAnswer, frameRoom, writeAnswer, writeRoom}
@@ -147,7 +147,7 @@ module _ (k room : List ℕ) where
   unfolding writeAnswer writeRoom
   write-size n = (rw (ne-eqb _ _ n), rw (ne-eqb _ _ n))
 
-  pub write-right : (n : ℕ) (t : List ℕ) → length k ≡ contentsSize → n ≡ numberIn (refusedBy (writeRefusal room (contentsOf k))) → t ≡ written room (contentsOf k) →
+  pub write-right : (n : ℕ) (t : List ℕ) → length k ≡ contentsSize → n ≡ numberIn (refusedBy (writeRefusal room (flatContentsOf k))) → t ≡ written room (flatContentsOf k) →
       (n ≡ writeAnswer k room) × (t ≡ writeRoom k room)
   unfolding writeAnswer writeRoom
   write-right n t l a b = (rw (eq-eqb _ _ l) a, rw (eq-eqb _ _ l) b)

@@ -18,7 +18,7 @@ use Rattle.list.specs.Issues.{issuesRefusal}
 use Rattle.list.specs.Rows.{listIn, rowOfSlotAnswer}
 use Rattle.list.specs.declared.row.Row.{Row}
 use Rattle.writing.specs.Write.{writeRefusal, written}
-use Rattle.from_flat.specs.Read.{contentsOf}
+use Rattle.from_flat.specs.Read.{flatContentsOf}
 use Rattle.flat_forms.specs.Write.{contentsBytes, rowBytes}
 use Rattle.boundary.specs.Size.{contentsSize, rowSize, rowsSize}
 
@@ -139,8 +139,8 @@ frameRoom f room = readingRoom (readFrame f) room
 
 -- qvd_write: 39, then the number of the writing
 unfoldable pub writeAnswer : List ℕ → List ℕ → ℕ
-writeAnswer k room = sized (isContents k) (numberIn (refusedBy (writeRefusal room (contentsOf k))))
+writeAnswer k room = sized (isContents k) (numberIn (refusedBy (writeRefusal room (flatContentsOf k))))
 
 -- the message of the contents
 unfoldable pub writeRoom : List ℕ → List ℕ → List ℕ
-writeRoom k room = pick (isContents k) (written room (contentsOf k)) room
+writeRoom k room = pick (isContents k) (written room (flatContentsOf k)) room

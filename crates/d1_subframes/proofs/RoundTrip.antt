@@ -20,7 +20,7 @@ use Rattle.d1_words.specs.Code.{flip}
 use Rattle.d1_words.specs.Word.{spread, interleaved, writtenWord, readWord, writtenFirst, readFirst}
 use Rattle.d1_words.proofs.WordLaws.{read-flipped, first-flipped, written-lt, written-first-lt}
 use Rattle.d1_subframes.specs.Subframe.{wordWidths, infoWidths, widthOf, offsetOf, infoOf, sentOf, infosOf, sentsOf, dataOf, subframeOf}
-use Rattle.d1_subframes.specs.Subframe.{refusalOf, readRefusal, writeRefusal, writeUnfit, readInto, noise, Received, Bytes}
+use Rattle.d1_subframes.specs.Subframe.{subframeRefusal, readRefusal, subframeWriteRefusal, writeUnfit, readInto, noise, Received, Bytes}
 use Rattle.d1_subframes.proofs.LoopLaws.{length-words, word-width, length-sentsOf, sent-nth, length-subframe}
 use Rattle.d1_subframes.proofs.AnswerLaws.{read-judged, write-unfit, write-judged, write-fits}
 use Rattle.d1_subframes.proofs.ByteBack.{zero-bytes, within-all, row-back}
@@ -89,21 +89,21 @@ unfolding subframeOf fieldAt bitAt
 closing d = field-puts-other (replicate 38 0) 0 wordWidths (sentsOf d) 300 4 (inr (omega (arith, total-words)))
 
 -- content that is not refused
-sound : (out d : List ℕ) → writeRefusal out d ≡ 0 → (length d ≡ 28) × (refusalOf false d ≡ 0)
+sound : (out d : List ℕ) → subframeWriteRefusal out d ≡ 0 → (length d ≡ 28) × (subframeRefusal false d ≡ 0)
 sound out d e = go (writeUnfit out d) refl
   where
-    go : (t : Bool) → writeUnfit out d ≡ t → (length d ≡ 28) × (refusalOf false d ≡ 0)
+    go : (t : Bool) → writeUnfit out d ≡ t → (length d ≡ 28) × (subframeRefusal false d ≡ 0)
     go true q = absurd (let z : _≡_ {A = ℕ} 31 0 = sym (write-unfit out d q) ∙ e in let y : ⊥ = omega arith in y)
     go false q = (write-fits out d q .0, sym (write-judged out d q) ∙ e)
 
 -- 02, CR 4: content that writing does not refuse, sent and received with at most one flipped bit in each code word, is read back
-pub read-received : (out room d s : List ℕ) (j k : ℕ → ℕ) → Bytes d → writeRefusal out d ≡ 0 → length room ≡ 28 → length s ≡ 38 → fieldAt s 300 4 ≡ 0
+pub read-received : (out room d s : List ℕ) (j k : ℕ → ℕ) → Bytes d → subframeWriteRefusal out d ≡ 0 → length room ≡ 28 → length s ≡ 38 → fieldAt s 300 4 ≡ 0
     → Received d s j k → (readRefusal room s ≡ 0) × (readInto room s ≡ d)
 read-received out room d s j k b e lr ls z r =
     let o = sound out d e in
     let x : dataOf s ≡ d = data-back d s j k b (o .0) r in
     let n : readRefusal room s ≡ 0 =
-    read-judged room s (rw (eq-eqb _ _ ls, eq-eqb _ _ lr, eq-eqb _ _ z)) ∙ ap (refusalOf false) x ∙ o .1 in
+    read-judged room s (rw (eq-eqb _ _ ls, eq-eqb _ _ lr, eq-eqb _ _ z)) ∙ ap (subframeRefusal false) x ∙ o .1 in
     (n, rw n x)
 
 -- flips beyond a code word are none
@@ -116,7 +116,7 @@ silent i = go (eqb i 0)
     go false = refl
 
 -- 02, CR 4: and so it is as it was written
-pub read-written : (out room d : List ℕ) → Bytes d → writeRefusal out d ≡ 0 → length room ≡ 28
+pub read-written : (out room d : List ℕ) → Bytes d → subframeWriteRefusal out d ≡ 0 → length room ≡ 28
     → (readRefusal room (subframeOf d) ≡ 0) × (readInto room (subframeOf d) ≡ d)
 read-written out room d b e lr =
     read-received out room d (subframeOf d) (λ i. 15) (λ i. 15) b e lr (length-subframe d) (closing d)

@@ -66,8 +66,8 @@ abbrev pub secondOf : List ℕ → ℕ
 secondOf d = fieldAt d 18 20
 
 -- 02, CR 4: 31 where it does not fit, then 32 to 34 by the information bits; 0 if none applies
-unfoldable pub refusalOf : Bool → List ℕ → ℕ
-refusalOf unfit d =
+unfoldable pub subframeRefusal : Bool → List ℕ → ℕ
+subframeRefusal unfit d =
     first
     ((31, unfit)
     ∷ (32, not (eqb (preambleOf d) 0b11100010010))
@@ -85,11 +85,11 @@ writeUnfit room d = not (eqb (length d) 28) || not (eqb (length room) 38)
 
 -- 02, CR 4: the number that reading refuses with, judged on the corrected bits
 unfoldable pub readRefusal : List ℕ → List ℕ → ℕ
-readRefusal room s = refusalOf (readUnfit room s) (dataOf s)
+readRefusal room s = subframeRefusal (readUnfit room s) (dataOf s)
 
 -- 02, CR 4: the number that writing refuses with
-unfoldable pub writeRefusal : List ℕ → List ℕ → ℕ
-writeRefusal room d = refusalOf (writeUnfit room d) d
+unfoldable pub subframeWriteRefusal : List ℕ → List ℕ → ℕ
+subframeWriteRefusal room d = subframeRefusal (writeUnfit room d) d
 
 -- on a refusal the room is as it was; else it is the bytes
 abbrev pub filled : ℕ → List ℕ → List ℕ → List ℕ
@@ -101,7 +101,7 @@ readInto room s = filled (readRefusal room s) (dataOf s) room
 
 -- 02, CR 4: what the room holds after writing
 abbrev pub writtenInto : List ℕ → List ℕ → List ℕ
-writtenInto room d = filled (writeRefusal room d) (subframeOf d) room
+writtenInto room d = filled (subframeWriteRefusal room d) (subframeOf d) room
 
 -- 02, CR 4: at most one flipped bit in each code word of word i: bit j of the first of two, bit k of the second or only one; the plain bits are left
 abbrev pub noise : ℕ → ℕ → ℕ → ℕ

@@ -5,7 +5,7 @@ ghost use Prim.Native.Nat.{_*_, _<_};
 ghost use Rattle.bits.specs.Bits.{fieldAt};
 ghost use Rattle.verdict.specs.Verdict.{says, refusedBy};
 ghost use Rattle.d1_subframes.specs.Subframe.{widthOf, offsetOf, infoOf, sentOf, dataOf, subframeOf};
-ghost use Rattle.d1_subframes.specs.Subframe.{refusalOf, readRefusal, writeRefusal, readInto, writtenInto};
+ghost use Rattle.d1_subframes.specs.Subframe.{subframeRefusal, readRefusal, subframeWriteRefusal, readInto, writtenInto};
 use verdict::Verdict;
 
 // How many information bits word i, from 0, has.
@@ -78,7 +78,7 @@ fn subframe_of(d: &[u8]) -> [u8; 38]
 
 // Refusals 32 to 34 of information bits, lowest first; 0 if none applies.
 fn refusal_of(d: &[u8]) -> u8
-    ensures { λ r. ⌜ r ≡ refusalOf false (now (d .entry)) ⌝ }
+    ensures { λ r. ⌜ r ≡ subframeRefusal false (now (d .entry)) ⌝ }
 {
     if bits::get16(d, 0, 11) != 0b11100010010 {
         return 32;
@@ -114,7 +114,7 @@ pub fn read_subframe(room: &mut [u8], s: &[u8]) -> Verdict
 
 // A subframe is written into a lent room of 38 bytes: refusals 31 to 34, lowest first. On a refusal the room is as it was.
 pub fn write_subframe(room: &mut [u8], s: &[u8]) -> Verdict
-    ensures verdict { λ r. ⌜ says r ≡ refusedBy (writeRefusal (now (room .entry)) (now (s .entry))) ⌝ }
+    ensures verdict { λ r. ⌜ says r ≡ refusedBy (subframeWriteRefusal (now (room .entry)) (now (s .entry))) ⌝ }
     ensures bytes { λ r. ⌜ now (room .exit) ≡ writtenInto (now (room .entry)) (now (s .entry)) ⌝ }
 {
     if (s.len() != 28) | (room.len() != 38) {

@@ -13,7 +13,7 @@ use Rattle.bits.specs.Poly.{timesX}
 use Rattle.bits.proofs.XorLaws.{xor-assoc}
 use Rattle.bits.proofs.Below.{both, both-left, both-right, all, below}
 use Rattle.d1_words.specs.Over.{overBits}
-use Rattle.d1_words.specs.Code.{shifted, remainderOf, codeWord, masks, corrected, flip}
+use Rattle.d1_words.specs.Code.{wordShifted, remainderOf, codeWord, masks, corrected, flip}
 use Rattle.d1_words.proofs.OverLaws.{remainder-xor, remainder-lt}
 
 -- flip 0 to 14 are the single bits, flip 15 is none: each one's mask is itself, and the mask of each state leaves that state
@@ -22,7 +22,7 @@ rule i = both (eqb (getD masks (remainderOf (flip i)) 0) (flip i)) (eqb (remaind
 
 -- the rule of table 5-2, by one test over its sixteen entries
 test : T (all rule 16)
-unfolding rule masks remainderOf overBits shifted timesX
+unfolding rule masks remainderOf overBits wordShifted timesX
 test = tt
 
 -- the mask of state s is a word that leaves s
@@ -54,7 +54,7 @@ flip-lt k =
 
 -- four bits are what their division leaves
 pub remainder-small : (r : ℕ) → r < 16 → remainderOf r ≡ r
-unfolding remainderOf overBits shifted timesX
+unfolding remainderOf overBits wordShifted timesX
 remainder-small r h = eqb→eq (remainderOf r) r (below (λ (i : ℕ). eqb (remainderOf i) i) 16 tt r h)
 
 -- eleven bits and what their division leaves, as a sum

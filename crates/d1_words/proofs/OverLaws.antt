@@ -9,7 +9,7 @@ use lib.Bits.{bitXor, xor-shr, xor-mod, xor-lt, xor-block}
 use Rattle.bits.proofs.XorLaws.{xor-swap, timesX-lt, timesX-xor}
 use Rattle.bits.specs.Poly.{timesX}
 use Rattle.d1_words.specs.Over.{overBits}
-use Rattle.d1_words.specs.Code.{generator, shifted, remainderOf}
+use Rattle.d1_words.specs.Code.{generator, wordShifted, remainderOf}
 use Rattle.d1_words.specs.Word.{wider, closer, spread}
 
 -- none of the bits yet
@@ -31,14 +31,14 @@ pub over-all : (m : ℕ) (f : ℕ → ℕ → ℕ) (n n′ e w : ℕ) → n ≡ 
 over-all m f n n′ e w p q = rw (p, q) (ap (overBits m f n′) (div-one w))
 
 -- the register stays below 16
-pub shifted-lt : (r b : ℕ) → r < 16 → b < 2 → shifted r b < 16
-unfolding shifted
+pub shifted-lt : (r b : ℕ) → r < 16 → b < 2 → wordShifted r b < 16
+unfolding wordShifted
 shifted-lt r b h k = xor-lt 4 _ b (timesX-lt 3 3 (lit< tt) r h) (omega arith)
 
-pub register-lt : (n w : ℕ) → overBits 1 shifted n w < 16
+pub register-lt : (n w : ℕ) → overBits 1 wordShifted n w < 16
 unfolding overBits
 register-lt zero w = lit< tt
-register-lt (suc n) w = shifted-lt (overBits 1 shifted n (w / 2 ^ 1)) (w % 2) (register-lt n (w / 2 ^ 1)) (omega arith)
+register-lt (suc n) w = shifted-lt (overBits 1 wordShifted n (w / 2 ^ 1)) (w % 2) (register-lt n (w / 2 ^ 1)) (omega arith)
 
 -- every second bit of a number makes one of n bits
 pub closer-lt : (n w : ℕ) → overBits 2 closer n w < 2 ^ n
@@ -76,14 +76,14 @@ over-xor P m f p l (suc n) v w =
     ∙ l (overBits m f n (v / 2 ^ m)) (overBits m f n (w / 2 ^ m)) (v % 2) (w % 2) (p n (v / 2 ^ m)) (p n (w / 2 ^ m)) (omega arith) (omega arith)
 
 -- so does the remainder
-shifted-xor : (r s b c : ℕ) → r < 16 → s < 16 → b < 2 → c < 2 → shifted (bitXor r s) (bitXor b c) ≡ bitXor (shifted r b) (shifted s c)
-unfolding shifted
+shifted-xor : (r s b c : ℕ) → r < 16 → s < 16 → b < 2 → c < 2 → wordShifted (bitXor r s) (bitXor b c) ≡ bitXor (wordShifted r b) (wordShifted s c)
+unfolding wordShifted
 shifted-xor r s b c hr hs hb hc =
     ap (λ (x : ℕ). bitXor x (bitXor b c)) (timesX-xor 3 generator r s hr hs) ∙ xor-swap (timesX 3 generator r) (timesX 3 generator s) b c
 
 pub remainder-xor : (v w : ℕ) → remainderOf (bitXor v w) ≡ bitXor (remainderOf v) (remainderOf w)
 unfolding remainderOf
-remainder-xor v w = over-xor (λ (r : ℕ). r < 16) 1 shifted register-lt shifted-xor 15 v w
+remainder-xor v w = over-xor (λ (r : ℕ). r < 16) 1 wordShifted register-lt shifted-xor 15 v w
 
 pub remainder-lt : (w : ℕ) → remainderOf w < 16
 unfolding remainderOf

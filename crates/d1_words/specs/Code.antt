@@ -13,12 +13,12 @@ abbrev pub generator : ℕ
 generator = 2 ^ 4 + 2 + 1
 
 -- 003, section 5.1.3: the division by the generator: the register after one bit more, r times X plus the bit
-unfoldable pub shifted : ℕ → ℕ → ℕ
-shifted r b = bitXor (timesX 3 generator r) b
+unfoldable pub wordShifted : ℕ → ℕ → ℕ
+wordShifted r b = bitXor (timesX 3 generator r) b
 
 -- 003, section 5.1.3, figure 5-4: the register D3 D2 D1 D0 after the 15 bits of a code word; bits above them are ignored
 unfoldable pub remainderOf : ℕ → ℕ
-remainderOf w = overBits 1 shifted 15 w
+remainderOf w = overBits 1 wordShifted 15 w
 
 -- 003, section 5.1.3, figure 5-2: eleven bits, then what the division of them by the generator, four bits up, leaves; bits above them are ignored
 unfoldable pub codeWord : ℕ → ℕ

@@ -2,7 +2,7 @@
 ghost use mathlib.Core.Path.{_≡_};
 ghost use Prim.Native.Nat.{_<_};
 ghost use lib.ListN.{getD};
-ghost use Rattle.d1_words.specs.Code.{shifted, remainderOf, codeWord, masks, corrected};
+ghost use Rattle.d1_words.specs.Code.{wordShifted, remainderOf, codeWord, masks, corrected};
 ghost use Rattle.d1_words.specs.Word.{spread, everyOther, interleaved, writtenWord, readWord, writtenFirst, readFirst};
 
 // 003, section 5.1.3, table 5-2: the correction mask of each state D3 D2 D1 D0 of the register, 0000 to 1111.
@@ -28,7 +28,7 @@ const MASKS: [u16; 16] = [
 // The register of the division by X^4 + X + 1 after one bit more.
 fn shift(r: u16, b: u16) -> u16
     requires { ⌜ (r < 16) × (b < 2) ⌝ }
-    ensures { λ q. ⌜ q ≡ shifted r b ⌝ }
+    ensures { λ q. ⌜ q ≡ wordShifted r b ⌝ }
 {
     if r < 8 {
         (r * 2) ^ b

@@ -6,7 +6,6 @@ use lib.ListN.{length, length-append}
 use native.Mathlib.Omega.{arith}
 use Rattle.bits.specs.Bytes.{storeAt}
 use Rattle.bits.proofs.TableLaws.{length-table}
-use Rattle.bits.specs.Table.{table}
 use Rattle.records.specs.declared.orbit.Orbit.{Orbit}
 use Rattle.records.specs.declared.clock.Clock.{Clock}
 use Rattle.contents.specs.declared.parts.MaskPart.{MaskPart}
@@ -16,33 +15,33 @@ use Rattle.contents.specs.declared.parts.Contents.{Contents}
 use Rattle.list.specs.declared.row.Row.{Row}
 use Rattle.lent.specs.Digits.{flagsOf}
 use Rattle.lent.proofs.DigitLaws.{length-flags}
-use Rattle.flat_forms.specs.Write.{clockRow, orbitRow, rowsTo, maskHead, clockHead, orbitHead, maskBytes, clocksBytes, orbitsBytes, contentsBytes, rowList, rowBytes}
+use Rattle.flat_forms.specs.Write.{flatClockRow, flatOrbitRow, rowsTo, maskHead, clockHead, orbitHead, flatMaskBytes, clocksBytes, orbitsBytes, contentsBytes, rowList, rowBytes}
 use Rattle.flat_forms.proofs.StoreLaws.{store-two, store-whole, length-rows}
 
 -- ---- lengths
-pub length-clocks : (ks : List Clock) (n : ℕ) → length (rowsTo (clockRow ks) n) ≡ 5 * n
-length-clocks ks n = length-rows (clockRow ks) 5 (λ i. refl) n
+pub length-clocks : (ks : List Clock) (n : ℕ) → length (rowsTo (flatClockRow ks) n) ≡ 5 * n
+length-clocks ks n = length-rows (flatClockRow ks) 5 (λ i. refl) n
 
-pub length-orbits : (os : List Orbit) (n : ℕ) → length (rowsTo (orbitRow os) n) ≡ 16 * n
-length-orbits os n = length-rows (orbitRow os) 16 (λ i. refl) n
+pub length-orbits : (os : List Orbit) (n : ℕ) → length (rowsTo (flatOrbitRow os) n) ≡ 16 * n
+length-orbits os n = length-rows (flatOrbitRow os) 16 (λ i. refl) n
 
-pub mask-long : (kind : ℕ) (m : MaskPart) → length (maskBytes kind m) ≡ 262
-unfolding maskBytes
+pub mask-long : (kind : ℕ) (m : MaskPart) → length (flatMaskBytes kind m) ≡ 262
+unfolding flatMaskBytes
 mask-long kind m = length-append (maskHead kind (m .epoch) (m .ssr) (m .iodp)) (flagsOf (m .bits)) ∙ omega (arith, length-flags (m .bits))
 
 pub clocks-long : (p : ClockPart) → length (clocksBytes p) ≡ 124
 unfolding clocksBytes
-clocks-long p = length-append (clockHead (p .epoch) (p .ssr) (p .iodp) (p .start) (p .count)) (rowsTo (clockRow (p .clocks)) 23) ∙ omega (arith, length-clocks (p .clocks) 23)
+clocks-long p = length-append (clockHead (p .epoch) (p .ssr) (p .iodp) (p .start) (p .count)) (rowsTo (flatClockRow (p .clocks)) 23) ∙ omega (arith, length-clocks (p .clocks) 23)
 
 pub orbits-long : (p : OrbitPart) → length (orbitsBytes p) ≡ 102
 unfolding orbitsBytes
-orbits-long p = length-append (orbitHead (p .epoch) (p .ssr) (p .count)) (rowsTo (orbitRow (p .orbits)) 6) ∙ omega (arith, length-orbits (p .orbits) 6)
+orbits-long p = length-append (orbitHead (p .epoch) (p .ssr) (p .count)) (rowsTo (flatOrbitRow (p .orbits)) 6) ∙ omega (arith, length-orbits (p .orbits) 6)
 
 -- contents are 488 bytes
 pub contents-long : (c : Contents) → length (contentsBytes c) ≡ 488
 unfolding contentsBytes
 contents-long c =
-    length-append (maskBytes (c .kind) (c .mask)) (clocksBytes (c .clock) ++ orbitsBytes (c .orbit))
+    length-append (flatMaskBytes (c .kind) (c .mask)) (clocksBytes (c .clock) ++ orbitsBytes (c .orbit))
     ∙ omega (arith, mask-long (c .kind) (c .mask), length-append (clocksBytes (c .clock)) (orbitsBytes (c .orbit)), clocks-long (c .clock), orbits-long (c .orbit))
 
 -- a row is 27 bytes
@@ -61,22 +60,22 @@ pub orbit-same : (s i o : ℕ) {r r′ a a′ c c′ k k′ q q′ : ℕ} → r 
 orbit-same s i o r a c k q = rw (r, a, c, k, q)
 
 -- ---- the parts one after the other
-pub mask-two : (s : List ℕ) (kind : ℕ) (m : MaskPart) → storeAt (storeAt s 0 (maskHead kind (m .epoch) (m .ssr) (m .iodp))) 7 (flagsOf (m .bits)) ≡ storeAt s 0 (maskBytes kind m)
-unfolding maskBytes
+pub mask-two : (s : List ℕ) (kind : ℕ) (m : MaskPart) → storeAt (storeAt s 0 (maskHead kind (m .epoch) (m .ssr) (m .iodp))) 7 (flagsOf (m .bits)) ≡ storeAt s 0 (flatMaskBytes kind m)
+unfolding flatMaskBytes
 mask-two s kind m = store-two s 0 7 (maskHead kind (m .epoch) (m .ssr) (m .iodp)) (flagsOf (m .bits)) refl
 
-pub clocks-two : (s : List ℕ) (p : ClockPart) → storeAt (storeAt s 262 (clockHead (p .epoch) (p .ssr) (p .iodp) (p .start) (p .count))) 271 (rowsTo (clockRow (p .clocks)) 23) ≡ storeAt s 262 (clocksBytes p)
+pub clocks-two : (s : List ℕ) (p : ClockPart) → storeAt (storeAt s 262 (clockHead (p .epoch) (p .ssr) (p .iodp) (p .start) (p .count))) 271 (rowsTo (flatClockRow (p .clocks)) 23) ≡ storeAt s 262 (clocksBytes p)
 unfolding clocksBytes
-clocks-two s p = store-two s 262 271 (clockHead (p .epoch) (p .ssr) (p .iodp) (p .start) (p .count)) (rowsTo (clockRow (p .clocks)) 23) refl
+clocks-two s p = store-two s 262 271 (clockHead (p .epoch) (p .ssr) (p .iodp) (p .start) (p .count)) (rowsTo (flatClockRow (p .clocks)) 23) refl
 
-pub orbits-two : (s : List ℕ) (p : OrbitPart) → storeAt (storeAt s 386 (orbitHead (p .epoch) (p .ssr) (p .count))) 392 (rowsTo (orbitRow (p .orbits)) 6) ≡ storeAt s 386 (orbitsBytes p)
+pub orbits-two : (s : List ℕ) (p : OrbitPart) → storeAt (storeAt s 386 (orbitHead (p .epoch) (p .ssr) (p .count))) 392 (rowsTo (flatOrbitRow (p .orbits)) 6) ≡ storeAt s 386 (orbitsBytes p)
 unfolding orbitsBytes
-orbits-two s p = store-two s 386 392 (orbitHead (p .epoch) (p .ssr) (p .count)) (rowsTo (orbitRow (p .orbits)) 6) refl
+orbits-two s p = store-two s 386 392 (orbitHead (p .epoch) (p .ssr) (p .count)) (rowsTo (flatOrbitRow (p .orbits)) 6) refl
 
-pub contents-three : (s : List ℕ) (c : Contents) → storeAt (storeAt (storeAt s 0 (maskBytes (c .kind) (c .mask))) 262 (clocksBytes (c .clock))) 386 (orbitsBytes (c .orbit)) ≡ storeAt s 0 (contentsBytes c)
+pub contents-three : (s : List ℕ) (c : Contents) → storeAt (storeAt (storeAt s 0 (flatMaskBytes (c .kind) (c .mask))) 262 (clocksBytes (c .clock))) 386 (orbitsBytes (c .orbit)) ≡ storeAt s 0 (contentsBytes c)
 unfolding contentsBytes
 contents-three s c =
-    let m = maskBytes (c .kind) (c .mask) in
+    let m = flatMaskBytes (c .kind) (c .mask) in
     store-two (storeAt s 0 m) 262 386 (clocksBytes (c .clock)) (orbitsBytes (c .orbit)) (omega (arith, clocks-long (c .clock)))
     ∙ store-two s 0 262 m (clocksBytes (c .clock) ++ orbitsBytes (c .orbit)) (omega (arith, mask-long (c .kind) (c .mask)))
 

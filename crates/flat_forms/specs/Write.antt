@@ -32,16 +32,16 @@ rowsTo f zero = []
 rowsTo f (suc n) = rowsTo f n ++ f n
 
 -- clock record: slot (2), IOD Corr (1), C0 (2)
-abbrev pub clockBytes : Clock → List ℕ
-clockBytes k = k .slot / 256 ∷ k .slot % 256 ∷ k .corr ∷ word (k .c0) / 256 ∷ word (k .c0) % 256 ∷ []
+abbrev pub flatClockBytes : Clock → List ℕ
+flatClockBytes k = k .slot / 256 ∷ k .slot % 256 ∷ k .corr ∷ word (k .c0) / 256 ∷ word (k .c0) % 256 ∷ []
 
 -- clock record i of a part
-abbrev pub clockRow : List Clock → ℕ → List ℕ
-clockRow ks i = clockBytes (getD ks i blankClock)
+abbrev pub flatClockRow : List Clock → ℕ → List ℕ
+flatClockRow ks i = flatClockBytes (getD ks i blankClock)
 
 -- orbit record: slot (2), IODN (2), IOD Corr (1), radial, along, cross (2 each), URA's kind (1) and quarters (4)
-abbrev pub orbitBytes : Orbit → List ℕ
-orbitBytes o =
+abbrev pub flatOrbitBytes : Orbit → List ℕ
+flatOrbitBytes o =
     o .slot / 256
     ∷ o .slot % 256
     ∷ o .iodn / 256
@@ -61,8 +61,8 @@ orbitBytes o =
     ∷ []
 
 -- orbit record i of a part
-abbrev pub orbitRow : List Orbit → ℕ → List ℕ
-orbitRow os i = orbitBytes (getD os i blankOrbit)
+abbrev pub flatOrbitRow : List Orbit → ℕ → List ℕ
+flatOrbitRow os i = flatOrbitBytes (getD os i blankOrbit)
 
 -- type (1), mask's epoch (4), IOD SSR (1), IODP (1)
 abbrev pub maskHead : ℕ → ℕ → ℕ → ℕ → List ℕ
@@ -89,20 +89,20 @@ orbitHead epoch ssr count =
     epoch / 65536 / 256 ∷ epoch / 65536 % 256 ∷ epoch % 65536 / 256 ∷ epoch % 65536 % 256 ∷ ssr ∷ count ∷ []
 
 -- the type and the mask part: 262 bytes
-unfoldable pub maskBytes : ℕ → MaskPart → List ℕ
-maskBytes kind m = maskHead kind (m .epoch) (m .ssr) (m .iodp) ++ flagsOf (m .bits)
+unfoldable pub flatMaskBytes : ℕ → MaskPart → List ℕ
+flatMaskBytes kind m = maskHead kind (m .epoch) (m .ssr) (m .iodp) ++ flagsOf (m .bits)
 
 -- the clock part: 124 bytes
 unfoldable pub clocksBytes : ClockPart → List ℕ
-clocksBytes p = clockHead (p .epoch) (p .ssr) (p .iodp) (p .start) (p .count) ++ rowsTo (clockRow (p .clocks)) 23
+clocksBytes p = clockHead (p .epoch) (p .ssr) (p .iodp) (p .start) (p .count) ++ rowsTo (flatClockRow (p .clocks)) 23
 
 -- the orbit part: 102 bytes
 unfoldable pub orbitsBytes : OrbitPart → List ℕ
-orbitsBytes p = orbitHead (p .epoch) (p .ssr) (p .count) ++ rowsTo (orbitRow (p .orbits)) 6
+orbitsBytes p = orbitHead (p .epoch) (p .ssr) (p .count) ++ rowsTo (flatOrbitRow (p .orbits)) 6
 
 -- contents: 488 bytes
 unfoldable pub contentsBytes : Contents → List ℕ
-contentsBytes c = maskBytes (c .kind) (c .mask) ++ (clocksBytes (c .clock) ++ orbitsBytes (c .orbit))
+contentsBytes c = flatMaskBytes (c .kind) (c .mask) ++ (clocksBytes (c .clock) ++ orbitsBytes (c .orbit))
 
 -- the byte of a system: 1 BeiDou, 2 GPS, 3 Galileo, 4 GLONASS
 abbrev pub systemOf : System → ℕ

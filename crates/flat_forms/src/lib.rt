@@ -4,7 +4,7 @@ ghost use Prim.Native.Nat.{_<_};
 ghost use lib.ListN.{getD};
 ghost use Rattle.bits.specs.Bytes.{storeAt};
 ghost use Rattle.records.specs.Signed.{rawHalf};
-ghost use Rattle.flat_forms.specs.Write.{clockBytes, clockRow, orbitBytes, orbitRow, rowsTo, maskHead, clockHead, orbitHead, maskBytes, clocksBytes, orbitsBytes, contentsBytes, systemOf, rowBytes};
+ghost use Rattle.flat_forms.specs.Write.{flatClockBytes, flatClockRow, flatOrbitBytes, flatOrbitRow, rowsTo, maskHead, clockHead, orbitHead, flatMaskBytes, clocksBytes, orbitsBytes, contentsBytes, systemOf, rowBytes};
 use contents::parts::ClockPart;
 use contents::parts::Contents;
 use contents::parts::MaskPart;
@@ -57,7 +57,7 @@ fn system_number(s: System) -> u8
 
 // The bytes of a clock record.
 fn clock_bytes(k: Clock) -> [u8; 5]
-    ensures { λ r. ⌜ r ≡ clockBytes k ⌝ }
+    ensures { λ r. ⌜ r ≡ flatClockBytes k ⌝ }
 {
     let z = raw16(k.c0);
     [
@@ -71,7 +71,7 @@ fn clock_bytes(k: Clock) -> [u8; 5]
 
 // The bytes of an orbit record.
 fn orbit_bytes(o: Orbit) -> [u8; 16]
-    ensures { λ r. ⌜ r ≡ orbitBytes o ⌝ }
+    ensures { λ r. ⌜ r ≡ flatOrbitBytes o ⌝ }
 {
     let ra = raw16(o.radial);
     let al = raw16(o.along);
@@ -155,7 +155,7 @@ fn orbit_head(epoch: u32, ssr: u8, count: u8) -> [u8; 6]
 
 // A clock record is put from byte at on.
 fn put_clock(room: &mut [u8], at: usize, k: Clock)
-    ensures { λ r. ⌜ now (room .exit) ≡ storeAt (now (room .entry)) at (clockBytes k) ⌝ }
+    ensures { λ r. ⌜ now (room .exit) ≡ storeAt (now (room .entry)) at (flatClockBytes k) ⌝ }
 {
     let b = clock_bytes(k);
     lent::store(room, at, &b);
@@ -163,7 +163,7 @@ fn put_clock(room: &mut [u8], at: usize, k: Clock)
 
 // The clock records are put.
 fn put_clocks(room: &mut [u8], ks: [Clock; 23])
-    ensures { λ r. ⌜ now (room .exit) ≡ storeAt (now (room .entry)) 271 (rowsTo (clockRow ks) 23) ⌝ }
+    ensures { λ r. ⌜ now (room .exit) ≡ storeAt (now (room .entry)) 271 (rowsTo (flatClockRow ks) 23) ⌝ }
 {
     let mut i: usize = 0;
     while i < 23 {
@@ -175,7 +175,7 @@ fn put_clocks(room: &mut [u8], ks: [Clock; 23])
 
 // An orbit record is put from byte at on.
 fn put_orbit(room: &mut [u8], at: usize, o: Orbit)
-    ensures { λ r. ⌜ now (room .exit) ≡ storeAt (now (room .entry)) at (orbitBytes o) ⌝ }
+    ensures { λ r. ⌜ now (room .exit) ≡ storeAt (now (room .entry)) at (flatOrbitBytes o) ⌝ }
 {
     let b = orbit_bytes(o);
     lent::store(room, at, &b);
@@ -183,7 +183,7 @@ fn put_orbit(room: &mut [u8], at: usize, o: Orbit)
 
 // The orbit records are put.
 fn put_orbits(room: &mut [u8], os: [Orbit; 6])
-    ensures { λ r. ⌜ now (room .exit) ≡ storeAt (now (room .entry)) 392 (rowsTo (orbitRow os) 6) ⌝ }
+    ensures { λ r. ⌜ now (room .exit) ≡ storeAt (now (room .entry)) 392 (rowsTo (flatOrbitRow os) 6) ⌝ }
 {
     let mut i: usize = 0;
     while i < 6 {
@@ -195,7 +195,7 @@ fn put_orbits(room: &mut [u8], os: [Orbit; 6])
 
 // The type and the mask part are put.
 fn put_mask_part(room: &mut [u8], kind: u8, m: MaskPart)
-    ensures { λ r. ⌜ now (room .exit) ≡ storeAt (now (room .entry)) 0 (maskBytes kind m) ⌝ }
+    ensures { λ r. ⌜ now (room .exit) ≡ storeAt (now (room .entry)) 0 (flatMaskBytes kind m) ⌝ }
 {
     let head = mask_head(kind, m.epoch, m.ssr, m.iodp);
     let bits = m.bits;

@@ -21,8 +21,8 @@ use Rattle.records.specs.declared.orbit.Orbit.{Orbit}
 use Rattle.records.specs.declared.clock.Clock.{Clock}
 use Rattle.contents.specs.declared.parts.Contents.{Contents}
 use Rattle.records.specs.Ura.{quartersIn}
-use Rattle.from_flat.specs.Read.{flagAt, flagsAt, clockNth, clocksAt, orbitNth, orbitsAt, maskIn, clocksIn, orbitsIn, contentsOf}
-use Rattle.flat_forms.specs.Write.{word, clockRow, orbitRow, rowsTo, maskHead, clockHead, orbitHead, maskBytes, clocksBytes, orbitsBytes, contentsBytes}
+use Rattle.from_flat.specs.Read.{flagAt, flagsAt, flatClockNth, flatClocksAt, flatOrbitNth, flatOrbitsAt, flatMaskIn, flatClocksIn, flatOrbitsIn, flatContentsOf}
+use Rattle.flat_forms.specs.Write.{word, flatClockRow, flatOrbitRow, rowsTo, maskHead, clockHead, orbitHead, flatMaskBytes, clocksBytes, orbitsBytes, contentsBytes}
 use Rattle.flat_forms.proofs.StoreLaws.{length-rows}
 use Rattle.flat_forms.proofs.FlatLaws.{mask-long, clocks-long}
 
@@ -64,29 +64,29 @@ pub record Sound (c : Contents) : Type 0 where
 module _ (c : Contents) where
   -- where the bytes of each part stand
   head-byte : (k : ℕ) → k < 7 → getD (contentsBytes c) k 0 ≡ getD (maskHead (c .kind) (c .mask .epoch) (c .mask .ssr) (c .mask .iodp)) k 0
-  unfolding contentsBytes maskBytes
+  unfolding contentsBytes flatMaskBytes
   head-byte k h =
       let m = maskHead (c .kind) (c .mask .epoch) (c .mask .ssr) (c .mask .iodp) in
-      List·getD-append (maskBytes (c .kind) (c .mask)) _ 0 k (omega (arith, mask-long (c .kind) (c .mask)))
+      List·getD-append (flatMaskBytes (c .kind) (c .mask)) _ 0 k (omega (arith, mask-long (c .kind) (c .mask)))
       ∙ List·getD-append m (flagsOf (c .mask .bits)) 0 k h
 
   flag-byte : (i : ℕ) → i < 255 → getD (contentsBytes c) (7 + i) 0 ≡ flagOf (getD (c .mask .bits) i false)
-  unfolding contentsBytes maskBytes flagsOf
+  unfolding contentsBytes flatMaskBytes flagsOf
   flag-byte i h =
-      List·getD-append (maskBytes (c .kind) (c .mask)) _ 0 (7 + i) (omega (arith, mask-long (c .kind) (c .mask)))
+      List·getD-append (flatMaskBytes (c .kind) (c .mask)) _ 0 (7 + i) (omega (arith, mask-long (c .kind) (c .mask)))
       ∙ right (maskHead (c .kind) (c .mask .epoch) (c .mask .ssr) (c .mask .iodp)) (flagsOf (c .mask .bits)) 7 i (7 + i) refl refl
       ∙ getD-table (λ (k : ℕ). flagOf (getD (c .mask .bits) k false)) 255 i 0 h
 
   clock-byte : (k at : ℕ) → k < 124 → at ≡ 262 + k → getD (contentsBytes c) at 0 ≡ getD (clocksBytes (c .clock)) k 0
   unfolding contentsBytes
   clock-byte k at h e =
-      right (maskBytes (c .kind) (c .mask)) _ 262 k at (mask-long (c .kind) (c .mask)) e
+      right (flatMaskBytes (c .kind) (c .mask)) _ 262 k at (mask-long (c .kind) (c .mask)) e
       ∙ List·getD-append (clocksBytes (c .clock)) (orbitsBytes (c .orbit)) 0 k (omega (arith, clocks-long (c .clock)))
 
   orbit-byte : (k at : ℕ) → at ≡ 386 + k → getD (contentsBytes c) at 0 ≡ getD (orbitsBytes (c .orbit)) k 0
   unfolding contentsBytes
   orbit-byte k at e =
-      right (maskBytes (c .kind) (c .mask)) _ 262 (124 + k) at (mask-long (c .kind) (c .mask)) (omega arith)
+      right (flatMaskBytes (c .kind) (c .mask)) _ 262 (124 + k) at (mask-long (c .kind) (c .mask)) (omega arith)
       ∙ right (clocksBytes (c .clock)) (orbitsBytes (c .orbit)) 124 k (124 + k) (clocks-long (c .clock)) refl
 
   clock-head : (k at : ℕ) → k < 9 → at ≡ 262 + k →
@@ -94,30 +94,30 @@ module _ (c : Contents) where
   unfolding clocksBytes
   clock-head k at h e =
       clock-byte k at (omega arith) e
-      ∙ List·getD-append (clockHead (c .clock .epoch) (c .clock .ssr) (c .clock .iodp) (c .clock .start) (c .clock .count)) (rowsTo (clockRow (c .clock .clocks)) 23) 0 k h
+      ∙ List·getD-append (clockHead (c .clock .epoch) (c .clock .ssr) (c .clock .iodp) (c .clock .start) (c .clock .count)) (rowsTo (flatClockRow (c .clock .clocks)) 23) 0 k h
 
   orbit-head : (k at : ℕ) → k < 6 → at ≡ 386 + k → getD (contentsBytes c) at 0 ≡ getD (orbitHead (c .orbit .epoch) (c .orbit .ssr) (c .orbit .count)) k 0
   unfolding orbitsBytes
   orbit-head k at h e =
       orbit-byte k at e
-      ∙ List·getD-append (orbitHead (c .orbit .epoch) (c .orbit .ssr) (c .orbit .count)) (rowsTo (orbitRow (c .orbit .orbits)) 6) 0 k h
+      ∙ List·getD-append (orbitHead (c .orbit .epoch) (c .orbit .ssr) (c .orbit .count)) (rowsTo (flatOrbitRow (c .orbit .orbits)) 6) 0 k h
 
-  clock-row : (i k at : ℕ) → i < 23 → k < 5 → at ≡ 271 + 5 * i + k → getD (contentsBytes c) at 0 ≡ getD (clockRow (c .clock .clocks) i) k 0
+  clock-row : (i k at : ℕ) → i < 23 → k < 5 → at ≡ 271 + 5 * i + k → getD (contentsBytes c) at 0 ≡ getD (flatClockRow (c .clock .clocks) i) k 0
   unfolding clocksBytes
   clock-row i k at h l e =
       clock-byte (9 + (5 * i + k)) at (omega arith) (omega arith)
-      ∙ right (clockHead (c .clock .epoch) (c .clock .ssr) (c .clock .iodp) (c .clock .start) (c .clock .count)) (rowsTo (clockRow (c .clock .clocks)) 23) 9 (5 * i + k) _ refl refl
-      ∙ row-at (clockRow (c .clock .clocks)) 5 (λ j. refl) 23 i k h l
+      ∙ right (clockHead (c .clock .epoch) (c .clock .ssr) (c .clock .iodp) (c .clock .start) (c .clock .count)) (rowsTo (flatClockRow (c .clock .clocks)) 23) 9 (5 * i + k) _ refl refl
+      ∙ row-at (flatClockRow (c .clock .clocks)) 5 (λ j. refl) 23 i k h l
 
-  orbit-row : (i k at : ℕ) → i < 6 → k < 16 → at ≡ 392 + 16 * i + k → getD (contentsBytes c) at 0 ≡ getD (orbitRow (c .orbit .orbits) i) k 0
+  orbit-row : (i k at : ℕ) → i < 6 → k < 16 → at ≡ 392 + 16 * i + k → getD (contentsBytes c) at 0 ≡ getD (flatOrbitRow (c .orbit .orbits) i) k 0
   unfolding orbitsBytes
   orbit-row i k at h l e =
       orbit-byte (6 + (16 * i + k)) at (omega arith)
-      ∙ right (orbitHead (c .orbit .epoch) (c .orbit .ssr) (c .orbit .count)) (rowsTo (orbitRow (c .orbit .orbits)) 6) 6 (16 * i + k) _ refl refl
-      ∙ row-at (orbitRow (c .orbit .orbits)) 16 (λ j. refl) 6 i k h l
+      ∙ right (orbitHead (c .orbit .epoch) (c .orbit .ssr) (c .orbit .count)) (rowsTo (flatOrbitRow (c .orbit .orbits)) 6) 6 (16 * i + k) _ refl refl
+      ∙ row-at (flatOrbitRow (c .orbit .orbits)) 16 (λ j. refl) 6 i k h l
 
   -- each record is read as it was written
-  clock-nth : (i : ℕ) → i < 23 → Fits16 (getD (c .clock .clocks) i blankClock) → clockNth (contentsBytes c) i ≡ getD (c .clock .clocks) i blankClock
+  clock-nth : (i : ℕ) → i < 23 → Fits16 (getD (c .clock .clocks) i blankClock) → flatClockNth (contentsBytes c) i ≡ getD (c .clock .clocks) i blankClock
   clock-nth i h fits =
       let k = getD (c .clock .clocks) i blankClock in
       let at = 271 + 5 * i in
@@ -132,7 +132,7 @@ module _ (c : Contents) where
         signed-raw 32768 (k .c0) fits,
       )
 
-  orbit-nth : (i : ℕ) → i < 6 → OrbitFits (getD (c .orbit .orbits) i blankOrbit) → orbitNth (contentsBytes c) i ≡ getD (c .orbit .orbits) i blankOrbit
+  orbit-nth : (i : ℕ) → i < 6 → OrbitFits (getD (c .orbit .orbits) i blankOrbit) → flatOrbitNth (contentsBytes c) i ≡ getD (c .orbit .orbits) i blankOrbit
   orbit-nth i h fits =
       let o = getD (c .orbit .orbits) i blankOrbit in
       let at = 392 + 16 * i in
@@ -173,8 +173,8 @@ module _ (c : Contents) where
       table-ext (flagAt (contentsBytes c)) (λ (i : ℕ). getD (c .mask .bits) i false) 255 (λ i h. rw (flag-byte i h) (flag-back (getD (c .mask .bits) i false)))
       ∙ table-same (c .mask .bits) 255 false e
 
-  mask-same : length (c .mask .bits) ≡ 255 → maskIn (contentsBytes c) ≡ c .mask
-  unfolding maskIn
+  mask-same : length (c .mask .bits) ≡ 255 → flatMaskIn (contentsBytes c) ≡ c .mask
+  unfolding flatMaskIn
   mask-same e =
       rw (
         head-byte 1 (omega arith),
@@ -188,20 +188,20 @@ module _ (c : Contents) where
       )
 
   module _ (s : Sound c) where
-    clocks-same : clocksAt (contentsBytes c) ≡ c .clock .clocks
-    unfolding clocksAt
+    clocks-same : flatClocksAt (contentsBytes c) ≡ c .clock .clocks
+    unfolding flatClocksAt
     clocks-same =
-        table-ext (clockNth (contentsBytes c)) (λ (i : ℕ). getD (c .clock .clocks) i blankClock) 23 (λ i h. clock-nth i h (s .clock i h))
+        table-ext (flatClockNth (contentsBytes c)) (λ (i : ℕ). getD (c .clock .clocks) i blankClock) 23 (λ i h. clock-nth i h (s .clock i h))
         ∙ table-same (c .clock .clocks) 23 blankClock (s .clocks)
 
-    orbits-same : orbitsAt (contentsBytes c) ≡ c .orbit .orbits
-    unfolding orbitsAt
+    orbits-same : flatOrbitsAt (contentsBytes c) ≡ c .orbit .orbits
+    unfolding flatOrbitsAt
     orbits-same =
-        table-ext (orbitNth (contentsBytes c)) (λ (i : ℕ). getD (c .orbit .orbits) i blankOrbit) 6 (λ i h. orbit-nth i h (s .orbit i h))
+        table-ext (flatOrbitNth (contentsBytes c)) (λ (i : ℕ). getD (c .orbit .orbits) i blankOrbit) 6 (λ i h. orbit-nth i h (s .orbit i h))
         ∙ table-same (c .orbit .orbits) 6 blankOrbit (s .orbits)
 
-    clock-part : clocksIn (contentsBytes c) ≡ c .clock
-    unfolding clocksIn
+    clock-part : flatClocksIn (contentsBytes c) ≡ c .clock
+    unfolding flatClocksIn
     clock-part =
         rw (
           clock-head 0 262 (omega arith) refl,
@@ -218,8 +218,8 @@ module _ (c : Contents) where
           pair-back (c .clock .start),
         )
 
-    orbit-part : orbitsIn (contentsBytes c) ≡ c .orbit
-    unfolding orbitsIn
+    orbit-part : flatOrbitsIn (contentsBytes c) ≡ c .orbit
+    unfolding flatOrbitsIn
     orbit-part =
         rw (
           orbit-head 0 386 (omega arith) refl,
@@ -233,6 +233,6 @@ module _ (c : Contents) where
         )
 
     -- THE LAW: the bytes of contents say the contents
-    pub contents-back : contentsOf (contentsBytes c) ≡ c
-    unfolding contentsOf
+    pub contents-back : flatContentsOf (contentsBytes c) ≡ c
+    unfolding flatContentsOf
     contents-back = rw (head-byte 0 (omega arith), mask-same (s .bits), clock-part, orbit-part)

@@ -24,20 +24,20 @@ unfoldable pub flagsAt : List ℕ → List Bool
 flagsAt s = table (flagAt s) 255
 
 -- clock record: slot (2), IOD Corr (1), C0 (2)
-abbrev pub clockAt : List ℕ → ℕ → Clock
-clockAt s at = record { slot = twoAt s at; corr = getD s (at + 2) 0; c0 = signedHalf 32768 (twoAt s (at + 3)) }
+abbrev pub flatClockAt : List ℕ → ℕ → Clock
+flatClockAt s at = record { slot = twoAt s at; corr = getD s (at + 2) 0; c0 = signedHalf 32768 (twoAt s (at + 3)) }
 
 -- clock record i of 23, from byte 271 on
-abbrev pub clockNth : List ℕ → ℕ → Clock
-clockNth s i = clockAt s (271 + 5 * i)
+abbrev pub flatClockNth : List ℕ → ℕ → Clock
+flatClockNth s i = flatClockAt s (271 + 5 * i)
 
 -- the clock records
-unfoldable pub clocksAt : List ℕ → List Clock
-clocksAt s = table (clockNth s) 23
+unfoldable pub flatClocksAt : List ℕ → List Clock
+flatClocksAt s = table (flatClockNth s) 23
 
 -- orbit record: slot (2), IODN (2), IOD Corr (1), radial, along, cross (2 each), URA's kind (1) and quarters (4)
-abbrev pub orbitAt : List ℕ → ℕ → Orbit
-orbitAt s at =
+abbrev pub flatOrbitAt : List ℕ → ℕ → Orbit
+flatOrbitAt s at =
     record {
       slot = twoAt s at;
       iodn = twoAt s (at + 2);
@@ -49,33 +49,33 @@ orbitAt s at =
     }
 
 -- orbit record i of 6, from byte 392 on
-abbrev pub orbitNth : List ℕ → ℕ → Orbit
-orbitNth s i = orbitAt s (392 + 16 * i)
+abbrev pub flatOrbitNth : List ℕ → ℕ → Orbit
+flatOrbitNth s i = flatOrbitAt s (392 + 16 * i)
 
 -- the orbit records
-unfoldable pub orbitsAt : List ℕ → List Orbit
-orbitsAt s = table (orbitNth s) 6
+unfoldable pub flatOrbitsAt : List ℕ → List Orbit
+flatOrbitsAt s = table (flatOrbitNth s) 6
 
 -- mask part: epoch (4), IOD SSR (1), IODP (1), flags (255)
-unfoldable pub maskIn : List ℕ → MaskPart
-maskIn s = record { epoch = fourAt s 1; ssr = getD s 5 0; iodp = getD s 6 0; bits = flagsAt s }
+unfoldable pub flatMaskIn : List ℕ → MaskPart
+flatMaskIn s = record { epoch = fourAt s 1; ssr = getD s 5 0; iodp = getD s 6 0; bits = flagsAt s }
 
 -- clock part: epoch (4), IOD SSR (1), IODP (1), sub-type or Slot_S (2), count (1), 23 records
-unfoldable pub clocksIn : List ℕ → ClockPart
-clocksIn s =
+unfoldable pub flatClocksIn : List ℕ → ClockPart
+flatClocksIn s =
     record {
       epoch = fourAt s 262;
       ssr = getD s 266 0;
       iodp = getD s 267 0;
       start = twoAt s 268;
       count = getD s 270 0;
-      clocks = clocksAt s;
+      clocks = flatClocksAt s;
     }
 
 -- orbit part: epoch (4), IOD SSR (1), count (1), 6 records
-unfoldable pub orbitsIn : List ℕ → OrbitPart
-orbitsIn s = record { epoch = fourAt s 386; ssr = getD s 390 0; count = getD s 391 0; orbits = orbitsAt s }
+unfoldable pub flatOrbitsIn : List ℕ → OrbitPart
+flatOrbitsIn s = record { epoch = fourAt s 386; ssr = getD s 390 0; count = getD s 391 0; orbits = flatOrbitsAt s }
 
 -- contents: type (1), mask part, clock part, orbit part
-unfoldable pub contentsOf : List ℕ → Contents
-contentsOf s = record { kind = getD s 0 0; mask = maskIn s; clock = clocksIn s; orbit = orbitsIn s }
+unfoldable pub flatContentsOf : List ℕ → Contents
+flatContentsOf s = record { kind = getD s 0 0; mask = flatMaskIn s; clock = flatClocksIn s; orbit = flatOrbitsIn s }

@@ -2,7 +2,7 @@
 ghost use mathlib.Core.Path.{_≡_};
 ghost use Prim.Native.Nat.{_<_};
 ghost use Rattle.records.specs.Signed.{signedHalf};
-ghost use Rattle.from_flat.specs.Read.{flagsAt, clockAt, clocksAt, orbitAt, orbitsAt, maskIn, clocksIn, orbitsIn, contentsOf};
+ghost use Rattle.from_flat.specs.Read.{flagsAt, flatClockAt, flatClocksAt, flatOrbitAt, flatOrbitsAt, flatMaskIn, flatClocksIn, flatOrbitsIn, flatContentsOf};
 use contents::parts::ClockPart;
 use contents::parts::Contents;
 use contents::parts::MaskPart;
@@ -41,7 +41,7 @@ fn read_flags(t: &[u8]) -> [bool; 255]
 // The clock record from byte at on.
 fn read_clock(t: &[u8], at: usize) -> Clock
     requires { ⌜ at < 800 ⌝ }
-    ensures { λ r. ⌜ r ≡ clockAt (now (t .entry)) at ⌝ }
+    ensures { λ r. ⌜ r ≡ flatClockAt (now (t .entry)) at ⌝ }
 {
     let slot = lent::two(t, at);
     let corr = lent::byte(t, at + 2);
@@ -51,7 +51,7 @@ fn read_clock(t: &[u8], at: usize) -> Clock
 
 // The 23 clock records.
 fn read_clocks(t: &[u8]) -> [Clock; 23]
-    ensures { λ r. ⌜ r ≡ clocksAt (now (t .entry)) ⌝ }
+    ensures { λ r. ⌜ r ≡ flatClocksAt (now (t .entry)) ⌝ }
 {
     let mut out = [blank_clock(); 23];
     let mut i: usize = 0;
@@ -65,7 +65,7 @@ fn read_clocks(t: &[u8]) -> [Clock; 23]
 // The orbit record from byte at on.
 fn read_orbit(t: &[u8], at: usize) -> Orbit
     requires { ⌜ at < 800 ⌝ }
-    ensures { λ r. ⌜ r ≡ orbitAt (now (t .entry)) at ⌝ }
+    ensures { λ r. ⌜ r ≡ flatOrbitAt (now (t .entry)) at ⌝ }
 {
     let slot = lent::two(t, at);
     let iodn = lent::two(t, at + 2);
@@ -87,7 +87,7 @@ fn read_orbit(t: &[u8], at: usize) -> Orbit
 
 // The six orbit records.
 fn read_orbits(t: &[u8]) -> [Orbit; 6]
-    ensures { λ r. ⌜ r ≡ orbitsAt (now (t .entry)) ⌝ }
+    ensures { λ r. ⌜ r ≡ flatOrbitsAt (now (t .entry)) ⌝ }
 {
     let mut out = [blank_orbit(); 6];
     let mut i: usize = 0;
@@ -100,7 +100,7 @@ fn read_orbits(t: &[u8]) -> [Orbit; 6]
 
 // The mask part.
 fn read_mask(t: &[u8]) -> MaskPart
-    ensures { λ r. ⌜ r ≡ maskIn (now (t .entry)) ⌝ }
+    ensures { λ r. ⌜ r ≡ flatMaskIn (now (t .entry)) ⌝ }
 {
     let epoch = lent::four(t, 1);
     let ssr = lent::byte(t, 5);
@@ -116,7 +116,7 @@ fn read_mask(t: &[u8]) -> MaskPart
 
 // The clock part.
 fn read_clock_part(t: &[u8]) -> ClockPart
-    ensures { λ r. ⌜ r ≡ clocksIn (now (t .entry)) ⌝ }
+    ensures { λ r. ⌜ r ≡ flatClocksIn (now (t .entry)) ⌝ }
 {
     let epoch = lent::four(t, 262);
     let ssr = lent::byte(t, 266);
@@ -136,7 +136,7 @@ fn read_clock_part(t: &[u8]) -> ClockPart
 
 // The orbit part.
 fn read_orbit_part(t: &[u8]) -> OrbitPart
-    ensures { λ r. ⌜ r ≡ orbitsIn (now (t .entry)) ⌝ }
+    ensures { λ r. ⌜ r ≡ flatOrbitsIn (now (t .entry)) ⌝ }
 {
     let epoch = lent::four(t, 386);
     let ssr = lent::byte(t, 390);
@@ -152,7 +152,7 @@ fn read_orbit_part(t: &[u8]) -> OrbitPart
 
 // The contents that bytes say; those past the end are 0.
 pub fn contents_of(bytes: &[u8]) -> Contents
-    ensures { λ r. ⌜ r ≡ contentsOf (now (bytes .entry)) ⌝ }
+    ensures { λ r. ⌜ r ≡ flatContentsOf (now (bytes .entry)) ⌝ }
 {
     let kind = lent::byte(bytes, 0);
     let mask = read_mask(bytes);

@@ -13,20 +13,20 @@ use Rattle.lent.proofs.HeldLaws.{put-room, puts-room, puts-view, AllHeld, held-
 use Rattle.lent.proofs.DropLaws.{drop-room, dropped-view}
 use Rattle.lent.proofs.DigitLaws.{pair-back, quad-back, zag-zig, flag-back}
 use Rattle.held_mask.specs.Size.{size}
-use Rattle.held_clocks.specs.Clocks.{clockAt, clockOffset, noClock, clocksKept, clockBytes, clockOf, clocksAt, putClock, putClocks, droppedClocks}
+use Rattle.held_clocks.specs.Clocks.{heldClockAt, clockOffset, noClock, clocksKept, heldClockBytes, heldClockOf, heldClocksAt, putClock, putClocks, droppedClocks}
 use Rattle.held_clocks.specs.declared.HeldClock.{HeldClock}
 use Rattle.held_clocks.proofs.ReadLaws.{clock-none}
 
 -- ---- there and back
-pub clock-long : (h : HeldClock) → length (clockBytes h) ≡ 12
+pub clock-long : (h : HeldClock) → length (heldClockBytes h) ≡ 12
 clock-long h = refl
 
 -- a clock that is held is read as it was written, whatever its fields
-pub clock-sound : (h : HeldClock) → h .has ≡ true → clockOf (clockBytes h) ≡ h
+pub clock-sound : (h : HeldClock) → h .has ≡ true → heldClockOf (heldClockBytes h) ≡ h
 clock-sound h e = rw (e, quad-back (h .epoch), pair-back (zigOf (h .c0)), zag-zig (h .c0), flag-back (h .placed))
 
 -- no clock is twelve zeros
-pub no-clock-sound : clockOf (clockBytes noClock) ≡ noClock
+pub no-clock-sound : heldClockOf (heldClockBytes noClock) ≡ noClock
 no-clock-sound = refl
 
 -- ---- what the bytes say: putting named clocks is `putAll` on the list that the bytes say
@@ -34,29 +34,29 @@ abbrev pub ClocksHeld : List (Named HeldClock) → Type 0
 ClocksHeld ns = AllHeld (λ (h : HeldClock). h .has) ns
 
 module _ (s : List ℕ) (long : length s ≡ size) where
-  pub clocks-view : (ns : List (Named HeldClock)) → ClocksHeld ns → clocksAt (putClocks s ns) ≡ putAll (clocksAt s) ns
-  clocks-view ns a = puts-view clockOf clockBytes 12 clock-long s 260 ns (omega arith) (held-sound clockOf clockBytes 12 clock-long (λ (h : HeldClock). h .has) clock-sound ns a)
+  pub clocks-view : (ns : List (Named HeldClock)) → ClocksHeld ns → heldClocksAt (putClocks s ns) ≡ putAll (heldClocksAt s) ns
+  clocks-view ns a = puts-view heldClockOf heldClockBytes 12 clock-long s 260 ns (omega arith) (held-sound heldClockOf heldClockBytes 12 clock-long (λ (h : HeldClock). h .has) clock-sound ns a)
 
   -- 01, What the ledger keeps: clocks that came by place are gone
-  pub clocks-dropped : clocksAt (droppedClocks s 255) ≡ map (unplaced clocksKept) (clocksAt s)
-  clocks-dropped = dropped-view clocksKept clockOf clockBytes 12 clock-long no-clock-sound s 260 (omega arith)
+  pub clocks-dropped : heldClocksAt (droppedClocks s 255) ≡ map (unplaced clocksKept) (heldClocksAt s)
+  clocks-dropped = dropped-view clocksKept heldClockOf heldClockBytes 12 clock-long no-clock-sound s 260 (omega arith)
 
 -- ---- what each step keeps, of bytes of any length
 module _ (s : List ℕ) where
   pub clock-room : (slot : ℕ) (h : HeldClock) → Kept 260 3320 s (putClock s slot h)
-  clock-room slot h = put-room clockOf clockBytes 12 clock-long s 260 slot h
+  clock-room slot h = put-room heldClockOf heldClockBytes 12 clock-long s 260 slot h
 
   pub clocks-room : (ns : List (Named HeldClock)) → Kept 260 3320 s (putClocks s ns)
-  clocks-room ns = puts-room clockOf clockBytes 12 clock-long s 260 ns
+  clocks-room ns = puts-room heldClockOf heldClockBytes 12 clock-long s 260 ns
 
   pub dropped-room : (n : ℕ) → Kept 260 3320 s (droppedClocks s n)
-  dropped-room n = drop-room clocksKept clockOf clockBytes 12 clock-long s 260 n
+  dropped-room n = drop-room clocksKept heldClockOf heldClockBytes 12 clock-long s 260 n
 
 -- clocks are as they were where their bytes are
-pub clocks-kept : (lo hi : ℕ) (s t : List ℕ) → Kept lo hi s t → (3320 ≤ lo) ⊎ (hi ≤ 260) → clocksAt t ≡ clocksAt s
-clocks-kept lo hi s t k o = helds-kept clockOf 12 260 lo hi s t k o
+pub clocks-kept : (lo hi : ℕ) (s t : List ℕ) → Kept lo hi s t → (3320 ≤ lo) ⊎ (hi ≤ 260) → heldClocksAt t ≡ heldClocksAt s
+clocks-kept lo hi s t k o = helds-kept heldClockOf 12 260 lo hi s t k o
 
 -- zero bytes, however many, hold no clock
 module _ (s : List ℕ) (zeros : (j : ℕ) → getD s j 0 ≡ 0) where
-  pub zero-clock : (slot : ℕ) → clockAt s slot ≡ noClock
+  pub zero-clock : (slot : ℕ) → heldClockAt s slot ≡ noClock
   zero-clock slot = sym (clock-none s slot (clockOffset slot) refl (λ e. omega (arith, zeros (clockOffset slot))))

@@ -12,17 +12,17 @@ use Rattle.bits.specs.Bytes.{rowAt}
 use Rattle.bits.specs.Table.{table}
 use Rattle.lent.specs.Digits.{zagOf, twoAt, fourAt}
 use Rattle.lent.specs.Held.{heldAt}
-use Rattle.held_clocks.specs.Clocks.{noClock, clockOffset, clockAt}
+use Rattle.held_clocks.specs.Clocks.{noClock, clockOffset, heldClockAt}
 use Rattle.held_clocks.specs.declared.HeldClock.{HeldClock}
 
 module _ (s : List ℕ) (slot at : ℕ) where
-  pub clock-none : at ≡ clockOffset slot → getD s at 0 ≢ 1 → noClock ≡ clockAt s slot
+  pub clock-none : at ≡ clockOffset slot → getD s at 0 ≢ 1 → noClock ≡ heldClockAt s slot
   unfolding heldAt rowAt table
   clock-none e n = rw (← e, add-zero at, ne-eqb _ _ n)
 
   pub clock-some : at ≡ clockOffset slot → getD s at 0 ≡ 1 →
       _≡_ {A = HeldClock}
       (record { has = true; placed = eqb (getD s (at + 1) 0) 1; epoch = fourAt s (at + 2); ssr = getD s (at + 6) 0; corr = getD s (at + 7) 0; c0 = zagOf (twoAt s (at + 8)) })
-      (clockAt s slot)
+      (heldClockAt s slot)
   unfolding heldAt rowAt table
   clock-some e n = rw (← e, add-zero at, eq-eqb _ _ n, add-assoc at 2 1, add-assoc at 2 2, add-assoc at 2 3, add-assoc at 8 1)

@@ -21,8 +21,8 @@ abbrev pub clocksKept : Kind HeldClock
 clocksKept = record { absent = noClock; placed = λ r. r .placed }
 
 -- FORM: held (1), by place (1), epoch (4), IOD SSR (1), IOD Corr (1), C0 (2), 2 spare
-abbrev pub clockBytes : HeldClock → List ℕ
-clockBytes h =
+abbrev pub heldClockBytes : HeldClock → List ℕ
+heldClockBytes h =
     flagOf (h .has)
     ∷ flagOf (h .placed)
     ∷ h .epoch / 65536 / 256
@@ -38,8 +38,8 @@ clockBytes h =
     ∷ []
 
 -- FORM: the clock that its bytes say
-abbrev pub clockOf : List ℕ → HeldClock
-clockOf r =
+abbrev pub heldClockOf : List ℕ → HeldClock
+heldClockOf r =
     pick (eqb (getD r 0 0) 1)
     (record {
       has = true;
@@ -56,25 +56,25 @@ abbrev pub clockOffset : ℕ → ℕ
 clockOffset slot = offset 12 260 slot
 
 -- the clock kept for a slot
-abbrev pub clockAt : List ℕ → ℕ → HeldClock
-clockAt s slot = heldAt clockOf 12 s 260 slot
+abbrev pub heldClockAt : List ℕ → ℕ → HeldClock
+heldClockAt s slot = heldAt heldClockOf 12 s 260 slot
 
 -- the clocks kept for slots 1 to 255
-abbrev pub clocksAt : List ℕ → List HeldClock
-clocksAt s = heldsAt clockOf 12 s 260
+abbrev pub heldClocksAt : List ℕ → List HeldClock
+heldClocksAt s = heldsAt heldClockOf 12 s 260
 
 -- the bytes with a clock kept for a slot
 abbrev pub putClock : List ℕ → ℕ → HeldClock → List ℕ
-putClock s slot h = putHeld clockBytes 12 s 260 slot h
+putClock s slot h = putHeld heldClockBytes 12 s 260 slot h
 
 -- the bytes with named clocks kept, one after the other
 abbrev pub putClocks : List ℕ → List (Named HeldClock) → List ℕ
-putClocks s ns = putHelds clockBytes 12 s 260 ns
+putClocks s ns = putHelds heldClockBytes 12 s 260 ns
 
 -- the bytes with the clock of a slot dropped if it came by place
 abbrev pub dropClock : List ℕ → ℕ → List ℕ
-dropClock s slot = dropOne clocksKept clockOf clockBytes 12 s 260 slot
+dropClock s slot = dropOne clocksKept heldClockOf heldClockBytes 12 s 260 slot
 
 -- the same for slots 1 to n
 abbrev pub droppedClocks : List ℕ → ℕ → List ℕ
-droppedClocks s n = droppedTo clocksKept clockOf clockBytes 12 s 260 n
+droppedClocks s n = droppedTo clocksKept heldClockOf heldClockBytes 12 s 260 n

@@ -1,6 +1,6 @@
 // The clocks that a ledger keeps, as lent bytes: docs/FORM.md. Any bytes are such a form; bytes past the end are 0.
 ghost use mathlib.Core.Path.{_≡_};
-ghost use Rattle.held_clocks.specs.Clocks.{noClock, clockBytes, clockOffset, clockAt, putClock, dropClock, droppedClocks};
+ghost use Rattle.held_clocks.specs.Clocks.{noClock, heldClockBytes, clockOffset, heldClockAt, putClock, dropClock, droppedClocks};
 use records::slots::Slot;
 
 // A clock as it is kept: its part's epoch and IOD SSR, and whether it came by place. C0 is raw.
@@ -29,7 +29,7 @@ pub fn no_clock() -> HeldClock
 
 // The bytes of a clock.
 fn clock_bytes(h: HeldClock) -> [u8; 12]
-    ensures { λ r. ⌜ r ≡ clockBytes h ⌝ }
+    ensures { λ r. ⌜ r ≡ heldClockBytes h ⌝ }
 {
     let has = lent::flag(h.has);
     let placed = lent::flag(h.placed);
@@ -66,7 +66,7 @@ fn clock_offset(slot: Slot) -> usize
 
 // The clock kept for a slot.
 pub fn get_clock(t: &[u8], slot: Slot) -> HeldClock
-    ensures { λ r. ⌜ r ≡ clockAt (now (t .entry)) (slot .0) ⌝ }
+    ensures { λ r. ⌜ r ≡ heldClockAt (now (t .entry)) (slot .0) ⌝ }
 {
     let at = clock_offset(slot);
     if lent::byte(t, at) != 1 {

@@ -16,7 +16,7 @@ use Rattle.bits.proofs.ByteLaws.{store-in, store-out, length-store, kept-trans,
 use Rattle.lent.specs.Digits.{flagOf, flagsOf}
 use Rattle.lent.proofs.DigitLaws.{flag-back, length-flags, flag-at}
 use Rattle.contents.specs.declared.parts.MaskPart.{MaskPart}
-use Rattle.held_mask.specs.Mask.{HeldMask, noMask, heldMask, bitAtSlot, sameBits, sameMask, bitsAt, maskAt, putMask}
+use Rattle.held_mask.specs.Mask.{HeldMask, noHeldMask, heldMask, bitAtSlot, sameBits, sameMask, bitsAt, maskAt, putMask}
 
 -- ---- the same is equal
 beq-eq : (a b : Bool) → Bool·beq a b ≡ true → a ≡ b
@@ -129,7 +129,7 @@ mask-kept lo hi s t k o =
     rw (same 1 (omega arith) (omega arith), same 2 (omega arith) (omega arith), same 3 (omega arith) (omega arith), table-ext (λ (i : ℕ). eqb (getD t (4 + i) 0) 1) (λ (i : ℕ). eqb (getD s (4 + i) 0) 1) 255 (λ i h. rw (same (4 + i) (omega arith) (omega arith))))
 
 -- ---- zero bytes, however many, hold no mask
-pub zero-mask : (n : ℕ) → maskAt (replicate {A = ℕ} n 0) ≡ noMask
+pub zero-mask : (n : ℕ) → maskAt (replicate {A = ℕ} n 0) ≡ noHeldMask
 unfolding bitsAt
 zero-mask n =
     let z = getD-zeros n in

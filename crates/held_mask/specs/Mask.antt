@@ -17,8 +17,8 @@ pub record HeldMask : Type 0 where
   pub bits : List Bool
 
 -- no mask in force
-abbrev pub noMask : HeldMask
-noMask = record { has = false; ssr = 0; iodp = 0; bits = table (λ (i : ℕ). false) 255 }
+abbrev pub noHeldMask : HeldMask
+noHeldMask = record { has = false; ssr = 0; iodp = 0; bits = table (λ (i : ℕ). false) 255 }
 
 -- the mask of a type 1, as it is held
 abbrev pub heldMask : MaskPart → HeldMask

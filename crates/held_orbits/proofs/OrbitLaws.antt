@@ -14,16 +14,16 @@ use Rattle.lent.proofs.DigitLaws.{pair-back, quad-back, zag-zig}
 use Rattle.records.specs.Ura.{quartersIn}
 use Rattle.records.proofs.UraLaws.{kind-back}
 use Rattle.held_mask.specs.Size.{size}
-use Rattle.held_orbits.specs.Orbits.{orbitAt, orbitOffset, noOrbit, orbitBytes, orbitOf, orbitsAt, putOrbits}
+use Rattle.held_orbits.specs.Orbits.{heldOrbitAt, orbitOffset, noOrbit, heldOrbitBytes, heldOrbitOf, heldOrbitsAt, putOrbits}
 use Rattle.held_orbits.specs.declared.HeldOrbit.{HeldOrbit}
 use Rattle.held_orbits.proofs.ReadLaws.{orbit-none}
 
 -- ---- there and back
-pub orbit-long : (h : HeldOrbit) → length (orbitBytes h) ≡ 24
+pub orbit-long : (h : HeldOrbit) → length (heldOrbitBytes h) ≡ 24
 orbit-long h = refl
 
 -- an orbit that is held is read as it was written, whatever its fields
-pub orbit-sound : (h : HeldOrbit) → h .has ≡ true → orbitOf (orbitBytes h) ≡ h
+pub orbit-sound : (h : HeldOrbit) → h .has ≡ true → heldOrbitOf (heldOrbitBytes h) ≡ h
 orbit-sound h e =
     rw (
       e,
@@ -40,7 +40,7 @@ orbit-sound h e =
     )
 
 -- no orbit is twenty-four zeros
-pub no-orbit-sound : orbitOf (orbitBytes noOrbit) ≡ noOrbit
+pub no-orbit-sound : heldOrbitOf (heldOrbitBytes noOrbit) ≡ noOrbit
 no-orbit-sound = refl
 
 -- ---- what the bytes say: putting named orbits is `putAll` on the list that the bytes say
@@ -48,19 +48,19 @@ abbrev pub OrbitsHeld : List (Named HeldOrbit) → Type 0
 OrbitsHeld ns = AllHeld (λ (h : HeldOrbit). h .has) ns
 
 module _ (s : List ℕ) (long : length s ≡ size) where
-  pub orbits-view : (ns : List (Named HeldOrbit)) → OrbitsHeld ns → orbitsAt (putOrbits s ns) ≡ putAll (orbitsAt s) ns
-  orbits-view ns a = puts-view orbitOf orbitBytes 24 orbit-long s 3320 ns (omega arith) (held-sound orbitOf orbitBytes 24 orbit-long (λ (h : HeldOrbit). h .has) orbit-sound ns a)
+  pub orbits-view : (ns : List (Named HeldOrbit)) → OrbitsHeld ns → heldOrbitsAt (putOrbits s ns) ≡ putAll (heldOrbitsAt s) ns
+  orbits-view ns a = puts-view heldOrbitOf heldOrbitBytes 24 orbit-long s 3320 ns (omega arith) (held-sound heldOrbitOf heldOrbitBytes 24 orbit-long (λ (h : HeldOrbit). h .has) orbit-sound ns a)
 
 -- ---- what each step keeps, of bytes of any length
 module _ (s : List ℕ) where
   pub orbits-room : (ns : List (Named HeldOrbit)) → Kept 3320 9440 s (putOrbits s ns)
-  orbits-room ns = puts-room orbitOf orbitBytes 24 orbit-long s 3320 ns
+  orbits-room ns = puts-room heldOrbitOf heldOrbitBytes 24 orbit-long s 3320 ns
 
 -- orbits are as they were where their bytes are
-pub orbits-kept : (lo hi : ℕ) (s t : List ℕ) → Kept lo hi s t → (9440 ≤ lo) ⊎ (hi ≤ 3320) → orbitsAt t ≡ orbitsAt s
-orbits-kept lo hi s t k o = helds-kept orbitOf 24 3320 lo hi s t k o
+pub orbits-kept : (lo hi : ℕ) (s t : List ℕ) → Kept lo hi s t → (9440 ≤ lo) ⊎ (hi ≤ 3320) → heldOrbitsAt t ≡ heldOrbitsAt s
+orbits-kept lo hi s t k o = helds-kept heldOrbitOf 24 3320 lo hi s t k o
 
 -- zero bytes, however many, hold no orbit
 module _ (s : List ℕ) (zeros : (j : ℕ) → getD s j 0 ≡ 0) where
-  pub zero-orbit : (slot : ℕ) → orbitAt s slot ≡ noOrbit
+  pub zero-orbit : (slot : ℕ) → heldOrbitAt s slot ≡ noOrbit
   zero-orbit slot = sym (orbit-none s slot (orbitOffset slot) refl (λ e. omega (arith, zeros (orbitOffset slot))))

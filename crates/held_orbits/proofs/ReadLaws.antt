@@ -17,7 +17,7 @@ use Rattle.lent.specs.Digits.{zagOf, twoAt, fourAt}
 use Rattle.lent.specs.Held.{heldAt}
 use Rattle.records.specs.Ura.{heldUra}
 use Rattle.records.specs.declared.ura.Ura.{Ura}
-use Rattle.held_orbits.specs.Orbits.{noOrbit, orbitOffset, orbitAt}
+use Rattle.held_orbits.specs.Orbits.{noOrbit, orbitOffset, heldOrbitAt}
 use Rattle.held_orbits.specs.declared.HeldOrbit.{HeldOrbit}
 
 -- an orbit made of equal fields
@@ -32,7 +32,7 @@ pub fits-on : {at : ℕ} (k : ℕ) → at < 9440 → k < 100 → Fits w64 (at + 
 fits-on k h l = search needs
 
 module _ (s : List ℕ) (slot at : ℕ) where
-  pub orbit-none : at ≡ orbitOffset slot → getD s at 0 ≢ 1 → noOrbit ≡ orbitAt s slot
+  pub orbit-none : at ≡ orbitOffset slot → getD s at 0 ≢ 1 → noOrbit ≡ heldOrbitAt s slot
   unfolding heldAt rowAt table
   orbit-none e n = rw (← e, add-zero at, ne-eqb _ _ n)
 
@@ -49,7 +49,7 @@ module _ (s : List ℕ) (slot at : ℕ) where
         cross = zagOf (twoAt s (at + 13));
         ura = heldUra (getD s (at + 15) 0) (fourAt s (at + 16));
       })
-      (orbitAt s slot)
+      (heldOrbitAt s slot)
   unfolding heldAt rowAt table
   orbit-some e n =
       rw (

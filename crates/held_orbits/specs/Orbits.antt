@@ -19,8 +19,8 @@ abbrev pub noOrbit : HeldOrbit
 noOrbit = record { has = false; epoch = 0; ssr = 0; iodn = 0; corr = 0; radial = pos 0; along = pos 0; cross = pos 0; ura = Unknown }
 
 -- FORM: held (1), epoch (4), IOD SSR (1), IODN (2), IOD Corr (1), radial, along, cross (2 each), URA's kind (1) and quarters (4), 4 spare
-abbrev pub orbitBytes : HeldOrbit → List ℕ
-orbitBytes h =
+abbrev pub heldOrbitBytes : HeldOrbit → List ℕ
+heldOrbitBytes h =
     flagOf (h .has)
     ∷ h .epoch / 65536 / 256
     ∷ h .epoch / 65536 % 256
@@ -48,8 +48,8 @@ orbitBytes h =
     ∷ []
 
 -- FORM: the orbit that its bytes say
-abbrev pub orbitOf : List ℕ → HeldOrbit
-orbitOf r =
+abbrev pub heldOrbitOf : List ℕ → HeldOrbit
+heldOrbitOf r =
     pick (eqb (getD r 0 0) 1)
     (record {
       has = true;
@@ -69,17 +69,17 @@ abbrev pub orbitOffset : ℕ → ℕ
 orbitOffset slot = offset 24 3320 slot
 
 -- the orbit kept for a slot
-abbrev pub orbitAt : List ℕ → ℕ → HeldOrbit
-orbitAt s slot = heldAt orbitOf 24 s 3320 slot
+abbrev pub heldOrbitAt : List ℕ → ℕ → HeldOrbit
+heldOrbitAt s slot = heldAt heldOrbitOf 24 s 3320 slot
 
 -- the orbits kept for slots 1 to 255
-abbrev pub orbitsAt : List ℕ → List HeldOrbit
-orbitsAt s = heldsAt orbitOf 24 s 3320
+abbrev pub heldOrbitsAt : List ℕ → List HeldOrbit
+heldOrbitsAt s = heldsAt heldOrbitOf 24 s 3320
 
 -- the bytes with an orbit kept for a slot
 abbrev pub putOrbit : List ℕ → ℕ → HeldOrbit → List ℕ
-putOrbit s slot h = putHeld orbitBytes 24 s 3320 slot h
+putOrbit s slot h = putHeld heldOrbitBytes 24 s 3320 slot h
 
 -- the bytes with named orbits kept, one after the other
 abbrev pub putOrbits : List ℕ → List (Named HeldOrbit) → List ℕ
-putOrbits s ns = putHelds orbitBytes 24 s 3320 ns
+putOrbits s ns = putHelds heldOrbitBytes 24 s 3320 ns

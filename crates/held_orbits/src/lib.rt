@@ -1,6 +1,6 @@
 // The orbits that a ledger keeps, as lent bytes: docs/FORM.md. Any bytes are such a form; bytes past the end are 0.
 ghost use mathlib.Core.Path.{_≡_};
-ghost use Rattle.held_orbits.specs.Orbits.{noOrbit, orbitBytes, orbitOffset, orbitAt, putOrbit};
+ghost use Rattle.held_orbits.specs.Orbits.{noOrbit, heldOrbitBytes, orbitOffset, heldOrbitAt, putOrbit};
 use records::slots::Slot;
 use records::ura::Ura;
 use records::ura::held_ura;
@@ -39,7 +39,7 @@ pub fn no_orbit() -> HeldOrbit
 
 // The bytes of an orbit.
 fn orbit_bytes(h: HeldOrbit) -> [u8; 24]
-    ensures { λ r. ⌜ r ≡ orbitBytes h ⌝ }
+    ensures { λ r. ⌜ r ≡ heldOrbitBytes h ⌝ }
 {
     let has = lent::flag(h.has);
     let eh = h.epoch / 65536;
@@ -94,7 +94,7 @@ fn orbit_offset(slot: Slot) -> usize
 
 // The orbit kept for a slot.
 pub fn get_orbit(t: &[u8], slot: Slot) -> HeldOrbit
-    ensures { λ r. ⌜ r ≡ orbitAt (now (t .entry)) (slot .0) ⌝ }
+    ensures { λ r. ⌜ r ≡ heldOrbitAt (now (t .entry)) (slot .0) ⌝ }
 {
     let at = orbit_offset(slot);
     if lent::byte(t, at) != 1 {

@@ -17,8 +17,8 @@ use Rattle.lookback.specs.Store.{naming, getOr, putAll, kept}
 use Rattle.lookback.proofs.StoreLaws.{flat, putAll-at, LooksBack, store-step, store-idle}
 use Rattle.lent.proofs.HeldLaws.{length-helds}
 use Rattle.held_mask.specs.Size.{size}
-use Rattle.held_clocks.specs.Clocks.{noClock, clocksKept, clockOf, clocksAt}
-use Rattle.held_orbits.specs.Orbits.{noOrbit, orbitOf, orbitsAt}
+use Rattle.held_clocks.specs.Clocks.{noClock, clocksKept, heldClockOf, heldClocksAt}
+use Rattle.held_orbits.specs.Orbits.{noOrbit, heldOrbitOf, heldOrbitsAt}
 use Rattle.held_clocks.specs.declared.HeldClock.{HeldClock}
 use Rattle.held_orbits.specs.declared.HeldOrbit.{HeldOrbit}
 use Rattle.held_mask.specs.Mask.{HeldMask, sameMask, maskAt}
@@ -75,25 +75,25 @@ module _ (s : List ℕ) (prn : ℕ) (h : List (List ℕ)) (f : List ℕ) (H : Ho
   taken-on : accepted prn h f ≡ true → maskOf (contentsOf f) ≡ maskBy prn f
   taken-on a = rw a at (mask-accepted prn h f)
 
-  step-orbit : accepted prn h f ≡ true → (slot : ℕ) → 1 ≤ slot → slot ≤ 255 → getD (orbitsAt (takenBytes s (contentsOf f))) (slot - 1) noOrbit ≡ orbitInForce prn (f ∷ h) slot
+  step-orbit : accepted prn h f ≡ true → (slot : ℕ) → 1 ≤ slot → slot ≤ 255 → getD (heldOrbitsAt (takenBytes s (contentsOf f))) (slot - 1) noOrbit ≡ orbitInForce prn (f ∷ h) slot
   unfolding orbitInForce orbitBy
   step-orbit a slot p q =
       let c = contentsOf f in
       let os = orbitsOf (c .kind) (c .orbit) in
       ap (λ (xs : List HeldOrbit). getD xs (slot - 1) noOrbit) (taken-orbits s c (H .long))
-      ∙ putAll-at (orbitsAt s) os slot noOrbit p (omega (arith, length-helds orbitOf 24 s 3320))
+      ∙ putAll-at (heldOrbitsAt s) os slot noOrbit p (omega (arith, length-helds heldOrbitOf 24 s 3320))
       ∙ ap (getOr (naming slot os)) (sym (orbit-listed s slot p q) ∙ H .orbit slot p q)
       ∙ rw a
 
-  step-clock : accepted prn h f ≡ true → (slot : ℕ) → 1 ≤ slot → slot ≤ 255 → getD (clocksAt (takenBytes s (contentsOf f))) (slot - 1) noClock ≡ clockBack prn [] (f ∷ h) slot
+  step-clock : accepted prn h f ≡ true → (slot : ℕ) → 1 ≤ slot → slot ≤ 255 → getD (heldClocksAt (takenBytes s (contentsOf f))) (slot - 1) noClock ≡ clockBack prn [] (f ∷ h) slot
   unfolding clockBy
   step-clock a slot p q =
       let c = contentsOf f in
       let ns = clocksOf (maskInForce prn h) (c .kind) (c .clock) in
       ap (λ (xs : List HeldClock). getD xs (slot - 1) noClock) (taken-clocks s c (H .long))
-      ∙ ap (λ (m : HeldMask). getD (putAll (kept clocksKept sameMask (maskOf c) m (clocksAt s)) (clocksOf m (c .kind) (c .clock))) (slot - 1) noClock) (H .mask)
-      ∙ ap (λ (o : Option HeldMask). getD (putAll (kept clocksKept sameMask o (maskInForce prn h) (clocksAt s)) ns) (slot - 1) noClock) (taken-on a)
-      ∙ store-step (clocks-back prn) f h (clocksAt s) ns slot p (omega (arith, length-helds clockOf 12 s 260)) (sym (clock-listed s slot p q) ∙ H .clock slot p q) (rw a)
+      ∙ ap (λ (m : HeldMask). getD (putAll (kept clocksKept sameMask (maskOf c) m (heldClocksAt s)) (clocksOf m (c .kind) (c .clock))) (slot - 1) noClock) (H .mask)
+      ∙ ap (λ (o : Option HeldMask). getD (putAll (kept clocksKept sameMask o (maskInForce prn h) (heldClocksAt s)) ns) (slot - 1) noClock) (taken-on a)
+      ∙ store-step (clocks-back prn) f h (heldClocksAt s) ns slot p (omega (arith, length-helds heldClockOf 12 s 260)) (sym (clock-listed s slot p q) ∙ H .clock slot p q) (rw a)
 
   step-taken : accepted prn h f ≡ true → Holds (takenBytes s (contentsOf f)) prn (f ∷ h)
   unfolding maskInForce

@@ -12,7 +12,7 @@ use Rattle.verdict.proofs.NumberLaws.{number-back}
 use Rattle.frame.specs.Frame.{contentsOf, foreignTo, shellRefusal, refusalWith, frameSays, shellFor}
 use Rattle.frame.proofs.FrameLaws.{leading, second}
 use Rattle.frame.proofs.VerdictLaws.{told-alone, frame-number, contents-not-6, frame-not-19}
-use Rattle.held_orbits.specs.Orbits.{orbitsAt, putOrbits}
+use Rattle.held_orbits.specs.Orbits.{heldOrbitsAt, putOrbits}
 use Rattle.held_clocks.specs.Clocks.{putClocks}
 use Rattle.held_mask.specs.Mask.{HeldMask, maskAt}
 use Rattle.places.specs.Keeps.{orbitsOf, clocksOf, maskRefusal, placeSays, refusalUnder, saysUnder}
@@ -41,8 +41,8 @@ module _ (s f : List ℕ) where
   clock-refusal e = second (refusalWith (foreignTo (prnAt s) f) f) (maskRefusal (maskAt s) (contentsOf f)) e
 
   -- and then the orbit part of a type 6 is not taken either
-  pub orbits-refused : refusalWith (foreignTo (prnAt s) f) f ≡ 0 → maskRefusal (maskAt s) (contentsOf f) ≢ 0 → orbitsAt (takeBytes s f) ≡ orbitsAt s
-  orbits-refused e n = ap orbitsAt (refused-same (λ z. n (rw (clock-refusal e) at z)))
+  pub orbits-refused : refusalWith (foreignTo (prnAt s) f) f ≡ 0 → maskRefusal (maskAt s) (contentsOf f) ≢ 0 → heldOrbitsAt (takeBytes s f) ≡ heldOrbitsAt s
+  orbits-refused e n = ap heldOrbitsAt (refused-same (λ z. n (rw (clock-refusal e) at z)))
 
 -- ---- what is said of a number, and the number in it
 -- of clocks by place

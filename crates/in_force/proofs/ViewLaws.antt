@@ -18,14 +18,14 @@ use Rattle.contents.specs.declared.parts.Contents.{Contents}
 use Rattle.lookback.specs.Store.{Named, putAll, getOr, kept, unplaced}
 use Rattle.lent.proofs.HeldLaws.{getD-helds, held-kept}
 use Rattle.held_mask.specs.Size.{size}
-use Rattle.held_clocks.specs.Clocks.{clocksKept, clockOf, clocksAt, putClock, putClocks, droppedClocks, noClock, clockAt}
-use Rattle.held_orbits.specs.Orbits.{orbitOf, orbitsAt, putOrbits, noOrbit, orbitAt}
+use Rattle.held_clocks.specs.Clocks.{clocksKept, heldClockOf, heldClocksAt, putClock, putClocks, droppedClocks, noClock, heldClockAt}
+use Rattle.held_orbits.specs.Orbits.{heldOrbitOf, heldOrbitsAt, putOrbits, noOrbit, heldOrbitAt}
 use Rattle.held_clocks.specs.declared.HeldClock.{HeldClock}
 use Rattle.held_orbits.specs.declared.HeldOrbit.{HeldOrbit}
 use Rattle.held_clocks.proofs.ClockLaws.{clocks-view, clocks-dropped, clock-room, clocks-room, dropped-room, clocks-kept, zero-clock}
 use Rattle.held_orbits.proofs.OrbitLaws.{orbits-view, orbits-room, orbits-kept, zero-orbit}
 use Rattle.in_force.proofs.ApartLaws.{clocks-by-orbits, orbits-by-clocks}
-use Rattle.held_mask.specs.Mask.{HeldMask, heldMask, noMask, sameMask, bitsAt, maskAt}
+use Rattle.held_mask.specs.Mask.{HeldMask, heldMask, noHeldMask, sameMask, bitsAt, maskAt}
 use Rattle.held_mask.proofs.MaskLaws.{mask-room, mask-view, mask-kept, zero-mask}
 use Rattle.lent.proofs.ZeroLaws.{getD-zeros}
 use Rattle.places.specs.Keeps.{maskOf, orbitsOf, clocksOf}
@@ -54,11 +54,11 @@ left-room s m = go (sameMask (maskAt s) (heldMask m))
     go true = kept-same 260 3320 s
     go false = dropped-room s 255
 
-left-view : (s : List ℕ) (m : MaskPart) → length s ≡ size → clocksAt (left s m) ≡ kept clocksKept sameMask (some (heldMask m)) (maskAt s) (clocksAt s)
+left-view : (s : List ℕ) (m : MaskPart) → length s ≡ size → heldClocksAt (left s m) ≡ kept clocksKept sameMask (some (heldMask m)) (maskAt s) (heldClocksAt s)
 unfolding kept
 left-view s m long = go (sameMask (maskAt s) (heldMask m))
   where
-    go : (b : Bool) → clocksAt (pick b s (droppedClocks s 255)) ≡ pick b (clocksAt s) (map (unplaced clocksKept) (clocksAt s))
+    go : (b : Bool) → heldClocksAt (pick b s (droppedClocks s 255)) ≡ pick b (heldClocksAt s) (map (unplaced clocksKept) (heldClocksAt s))
     go true = refl
     go false = clocks-dropped s long
 
@@ -72,11 +72,11 @@ module _ (s : List ℕ) (m : MaskPart) (long : length s ≡ size) where
   unfolding maskBytes
   mask-bytes-mask e = mask-view (left s m) m (left-room s m .long ∙ long) e
 
-  mask-bytes-orbits : orbitsAt (maskBytes s m) ≡ orbitsAt s
+  mask-bytes-orbits : heldOrbitsAt (maskBytes s m) ≡ heldOrbitsAt s
   unfolding maskBytes
   mask-bytes-orbits = orbits-kept 1 259 (left s m) _ (mask-room (left s m) m) (inr (omega arith)) ∙ orbits-kept 260 3320 s (left s m) (left-room s m) (inr (omega arith))
 
-  mask-bytes-clocks : clocksAt (maskBytes s m) ≡ kept clocksKept sameMask (some (heldMask m)) (maskAt s) (clocksAt s)
+  mask-bytes-clocks : heldClocksAt (maskBytes s m) ≡ kept clocksKept sameMask (some (heldMask m)) (maskAt s) (heldClocksAt s)
   unfolding maskBytes
   mask-bytes-clocks = clocks-kept 1 259 (left s m) _ (mask-room (left s m) m) (inr (omega arith)) ∙ left-view s m long
 
@@ -104,38 +104,38 @@ module _ (s : List ℕ) (c : Contents) (long : length s ≡ size) where
       (λ k. ap maskAt (taken-1 s c k) ∙ mask-bytes-mask s (c .mask) long e ∙ rw (mask-1 c k))
       (λ k. ap maskAt (taken-other s c k) ∙ mask-kept 260 9440 s _ (records-room s _ _) (inl (omega arith)) ∙ rw (mask-other c k))
 
-  pub taken-orbits : orbitsAt (takenBytes s c) ≡ putAll (orbitsAt s) (orbitsOf (c .kind) (c .orbit))
+  pub taken-orbits : heldOrbitsAt (takenBytes s c) ≡ putAll (heldOrbitsAt s) (orbitsOf (c .kind) (c .orbit))
   unfolding putAll
   taken-orbits =
       dite (ℕ-discrete (c .kind) 1)
-      (λ k. ap orbitsAt (taken-1 s c k) ∙ mask-bytes-orbits s (c .mask) long ∙ rw (mask-orbits c k))
+      (λ k. ap heldOrbitsAt (taken-1 s c k) ∙ mask-bytes-orbits s (c .mask) long ∙ rw (mask-orbits c k))
       (λ k.
       let ks = clocksOf (maskAt s) (c .kind) (c .clock) in
       let os = orbitsOf (c .kind) (c .orbit) in
-      ap orbitsAt (taken-other s c k)
+      ap heldOrbitsAt (taken-other s c k)
       ∙ orbits-view (putClocks s ks) (clocks-room s ks .long ∙ long) os (orbits-held (c .kind) (c .orbit))
       ∙ ap (λ (xs : List HeldOrbit). putAll xs os) (orbits-by-clocks s ks))
 
-  pub taken-clocks : clocksAt (takenBytes s c) ≡ putAll (kept clocksKept sameMask (maskOf c) (maskAt s) (clocksAt s)) (clocksOf (maskAt s) (c .kind) (c .clock))
+  pub taken-clocks : heldClocksAt (takenBytes s c) ≡ putAll (kept clocksKept sameMask (maskOf c) (maskAt s) (heldClocksAt s)) (clocksOf (maskAt s) (c .kind) (c .clock))
   unfolding putAll kept
   taken-clocks =
       dite (ℕ-discrete (c .kind) 1)
-      (λ k. ap clocksAt (taken-1 s c k) ∙ mask-bytes-clocks s (c .mask) long ∙ rw (mask-1 c k, mask-clocks c k (maskAt s)))
+      (λ k. ap heldClocksAt (taken-1 s c k) ∙ mask-bytes-clocks s (c .mask) long ∙ rw (mask-1 c k, mask-clocks c k (maskAt s)))
       (λ k.
       let ks = clocksOf (maskAt s) (c .kind) (c .clock) in
       let os = orbitsOf (c .kind) (c .orbit) in
-      ap clocksAt (taken-other s c k)
+      ap heldClocksAt (taken-other s c k)
       ∙ clocks-by-orbits (putClocks s ks) os
       ∙ clocks-view s long ks (clocks-held (maskAt s) (c .kind) (c .clock))
       ∙ rw (mask-other c k))
 
 -- ---- the record of a slot is its element of the list
 module _ (s : List ℕ) (slot : ℕ) (p : 1 ≤ slot) (q : slot ≤ 255) where
-  pub clock-listed : clockAt s slot ≡ getD (clocksAt s) (slot - 1) noClock
-  clock-listed = let e : slot - 1 + 1 ≡ slot = omega arith in sym (getD-helds clockOf 12 s 260 (slot - 1) noClock (omega arith) ∙ ap (clockAt s) e)
+  pub clock-listed : heldClockAt s slot ≡ getD (heldClocksAt s) (slot - 1) noClock
+  clock-listed = let e : slot - 1 + 1 ≡ slot = omega arith in sym (getD-helds heldClockOf 12 s 260 (slot - 1) noClock (omega arith) ∙ ap (heldClockAt s) e)
 
-  pub orbit-listed : orbitAt s slot ≡ getD (orbitsAt s) (slot - 1) noOrbit
-  orbit-listed = let e : slot - 1 + 1 ≡ slot = omega arith in sym (getD-helds orbitOf 24 s 3320 (slot - 1) noOrbit (omega arith) ∙ ap (orbitAt s) e)
+  pub orbit-listed : heldOrbitAt s slot ≡ getD (heldOrbitsAt s) (slot - 1) noOrbit
+  orbit-listed = let e : slot - 1 + 1 ≡ slot = omega arith in sym (getD-helds heldOrbitOf 24 s 3320 (slot - 1) noOrbit (omega arith) ∙ ap (heldOrbitAt s) e)
 
 -- ---- a fresh ledger: the PRN, and nothing else
 module _ (s : List ℕ) (prn : ℕ) where
@@ -150,16 +150,16 @@ module _ (s : List ℕ) (prn : ℕ) where
   unfolding fresh
   fresh-prn l = getD-set-same (replicate (length s) 0) 0 prn 0 (omega (arith, length-replicate {A = ℕ} (length s) 0))
 
-  pub fresh-mask : maskAt (fresh s prn) ≡ noMask
+  pub fresh-mask : maskAt (fresh s prn) ≡ noHeldMask
   fresh-mask = mask-kept 0 1 _ _ fresh-room (inr (omega arith)) ∙ zero-mask (length s)
 
   module _ (slot : ℕ) (p : 1 ≤ slot) (q : slot ≤ 255) where
-    pub fresh-clock : clockAt (fresh s prn) slot ≡ noClock
+    pub fresh-clock : heldClockAt (fresh s prn) slot ≡ noClock
     fresh-clock =
         let zeros = replicate {A = ℕ} (length s) 0 in
-        held-kept clockOf 12 260 0 1 zeros (fresh s prn) fresh-room (inr (omega arith)) slot p q ∙ zero-clock zeros (getD-zeros (length s)) slot
+        held-kept heldClockOf 12 260 0 1 zeros (fresh s prn) fresh-room (inr (omega arith)) slot p q ∙ zero-clock zeros (getD-zeros (length s)) slot
 
-    pub fresh-orbit : orbitAt (fresh s prn) slot ≡ noOrbit
+    pub fresh-orbit : heldOrbitAt (fresh s prn) slot ≡ noOrbit
     fresh-orbit =
         let zeros = replicate {A = ℕ} (length s) 0 in
-        held-kept orbitOf 24 3320 0 1 zeros (fresh s prn) fresh-room (inr (omega arith)) slot p q ∙ zero-orbit zeros (getD-zeros (length s)) slot
+        held-kept heldOrbitOf 24 3320 0 1 zeros (fresh s prn) fresh-room (inr (omega arith)) slot p q ∙ zero-orbit zeros (getD-zeros (length s)) slot

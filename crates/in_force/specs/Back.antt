@@ -11,7 +11,7 @@ use Rattle.held_clocks.specs.Clocks.{noClock, clocksKept}
 use Rattle.held_orbits.specs.Orbits.{noOrbit}
 use Rattle.held_clocks.specs.declared.HeldClock.{HeldClock}
 use Rattle.held_orbits.specs.declared.HeldOrbit.{HeldOrbit}
-use Rattle.held_mask.specs.Mask.{HeldMask, noMask, sameMask}
+use Rattle.held_mask.specs.Mask.{HeldMask, noHeldMask, sameMask}
 use Rattle.places.specs.Keeps.{maskOf, orbitsOf, clocksOf, refusalUnder, saysUnder}
 
 -- 01, What the ledger keeps: the mask that f brings, where it is an accepted type 1; that depends on no other frame
@@ -20,7 +20,7 @@ maskBy prn f = pick (eqb (refusalWith (foreignTo prn f) f) 0) (maskOf (contentsO
 
 -- 01, Mask in force: that of the last accepted type 1, for a ledger of the PRN after the frames h
 unfoldable pub maskInForce : ℕ → List (List ℕ) → HeldMask
-maskInForce prn [] = noMask
+maskInForce prn [] = noHeldMask
 maskInForce prn (f ∷ h) = getOr (maskBy prn f) (maskInForce prn h)
 
 -- 01, Refusal numbers: the one given to f, handed in after h; 0 if it is taken

@@ -10,8 +10,8 @@ use Rattle.contents.specs.declared.parts.MaskPart.{MaskPart}
 use Rattle.contents.specs.declared.parts.Contents.{Contents}
 use Rattle.frame.specs.Frame.{contentsOf}
 use Rattle.held_mask.specs.Size.{size}
-use Rattle.held_clocks.specs.Clocks.{clockAt, putClocks, droppedClocks}
-use Rattle.held_orbits.specs.Orbits.{orbitAt, putOrbits}
+use Rattle.held_clocks.specs.Clocks.{heldClockAt, putClocks, droppedClocks}
+use Rattle.held_orbits.specs.Orbits.{heldOrbitAt, putOrbits}
 use Rattle.held_mask.specs.Mask.{heldMask, sameMask, maskAt, putMask}
 use Rattle.frame.specs.Frame.{isPrn}
 use Rattle.places.specs.Keeps.{orbitsOf, clocksOf, refusalUnder, saysUnder}
@@ -57,8 +57,8 @@ pub record Holds (s : List ℕ) (prn : ℕ) (h : List (List ℕ)) : Type 0 where
   pub long : length s ≡ size
   pub own : prnAt s ≡ prn
   pub mask : maskAt s ≡ maskInForce prn h
-  pub orbit : (slot : ℕ) → 1 ≤ slot → slot ≤ 255 → orbitAt s slot ≡ orbitInForce prn h slot
-  pub clock : (slot : ℕ) → 1 ≤ slot → slot ≤ 255 → clockAt s slot ≡ clockInForce prn h slot
+  pub orbit : (slot : ℕ) → 1 ≤ slot → slot ≤ 255 → heldOrbitAt s slot ≡ orbitInForce prn h slot
+  pub clock : (slot : ℕ) → 1 ≤ slot → slot ≤ 255 → heldClockAt s slot ≡ clockInForce prn h slot
 
 -- frame i of a log, from 0: a piece of 125 bytes; what is left at the end is a shorter one
 abbrev pub frameAt : List ℕ → ℕ → List ℕ

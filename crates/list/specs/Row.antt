@@ -9,8 +9,8 @@ use Rattle.bits.specs.Pick.{pick}
 use Rattle.records.specs.Slots.{satelliteOf}
 use Rattle.records.specs.declared.ura.Ura.{Ura}
 use Rattle.records.specs.declared.ura.Ura.the-variants.{Unknown, Quarters, Above}
-use Rattle.held_clocks.specs.Clocks.{clockAt}
-use Rattle.held_orbits.specs.Orbits.{orbitAt}
+use Rattle.held_clocks.specs.Clocks.{heldClockAt}
+use Rattle.held_orbits.specs.Orbits.{heldOrbitAt}
 use Rattle.held_clocks.specs.declared.HeldClock.{HeldClock}
 use Rattle.held_orbits.specs.declared.HeldOrbit.{HeldOrbit}
 use Rattle.held_mask.specs.Mask.{HeldMask, bitAtSlot, maskAt}
@@ -68,7 +68,7 @@ rowOf m o k issue slot = pick (qualifies m o k issue slot) (some (rowFrom slot o
 
 -- the row of a slot by what a ledger's bytes hold
 abbrev pub rowHeld : List ℕ → ℕ → ℕ → Option Row
-rowHeld s issue slot = rowOf (maskAt s) (orbitAt s slot) (clockAt s slot) issue slot
+rowHeld s issue slot = rowOf (maskAt s) (heldOrbitAt s slot) (heldClockAt s slot) issue slot
 
 -- 01, Refusal numbers: the number and the value of each answer; a row is 0 and the row, a refusal its number alone
 abbrev pub rowSays : RowAnswer → ℕ × Option Row

@@ -16,7 +16,7 @@ use Rattle.held_clocks.specs.Clocks.{noClock, clocksKept}
 use Rattle.held_orbits.specs.Orbits.{noOrbit}
 use Rattle.held_clocks.specs.declared.HeldClock.{HeldClock}
 use Rattle.held_orbits.specs.declared.HeldOrbit.{HeldOrbit}
-use Rattle.held_mask.specs.Mask.{HeldMask, noMask, sameMask}
+use Rattle.held_mask.specs.Mask.{HeldMask, noHeldMask, sameMask}
 use Rattle.lookback.specs.Walk.{rows}
 use Rattle.lookback.proofs.WalkLaws.{rows-same}
 use Rattle.list.specs.Issues.{issueOf}
@@ -29,7 +29,7 @@ use Rattle.in_force.specs.Back.{maskInForce, refusalAfter, maskBy, orbitBy, clo
 
 -- the same looking back, over the contents of accepted frames
 unfoldable pub maskOver : List Contents → HeldMask
-maskOver [] = noMask
+maskOver [] = noHeldMask
 maskOver (c ∷ cs) = getOr (maskOf c) (maskOver cs)
 
 unfoldable pub orbitOver : List Contents → ℕ → HeldOrbit

@@ -13,7 +13,7 @@ use native.Mathlib.Omega.{arith}
 use borrow.Author.Tests.{eq-eqb, ne-eqb}
 use Rattle.bits.specs.Pick.{pick}
 use Rattle.lookback.specs.Store.{orElse}
-use Rattle.lookback.specs.Walk.{toList, rowsFrom, rows, countFrom, nthOf, nthFrom}
+use Rattle.lookback.specs.Walk.{toList, rowsFrom, rows, countFrom, nthOf, nthRowFrom}
 
 -- some slot of the n from s on has the row r
 pub record Found {A : Type 0} (f : ℕ → Option A) (n s : ℕ) (r : A) : Type 0 where
@@ -146,8 +146,8 @@ module _ {A : Type 0} where
   nth-missing (r ∷ rs) k (inr h) = rw (ne-eqb k 1 (λ e. omega arith)) (nth-missing rs (k - 1) (inr (omega arith)))
 
   -- the walk finds the k-th of the list
-  pub nth-rows : (f : ℕ → Option A) (n s k : ℕ) → nthFrom f n s k ≡ nthOf (rowsFrom f n s) k
-  unfolding nthFrom rowsFrom nthOf
+  pub nth-rows : (f : ℕ → Option A) (n s k : ℕ) → nthRowFrom f n s k ≡ nthOf (rowsFrom f n s) k
+  unfolding nthRowFrom rowsFrom nthOf
   nth-rows f zero s k = refl
   nth-rows f (suc n) s k = go (f s) (nth-rows f n (s + 1))
     where
@@ -155,8 +155,8 @@ module _ {A : Type 0} where
       either true r x = refl
       either false r x = refl
 
-      go : (o : Option A) → ((j : ℕ) → nthFrom f n (s + 1) j ≡ nthOf (rowsFrom f n (s + 1)) j) →
-          orElse (nthOf (toList o) k) (nthFrom f n (s + 1) (k - length (toList o))) ≡ nthOf (toList o ++ rowsFrom f n (s + 1)) k
+      go : (o : Option A) → ((j : ℕ) → nthRowFrom f n (s + 1) j ≡ nthOf (rowsFrom f n (s + 1)) j) →
+          orElse (nthOf (toList o) k) (nthRowFrom f n (s + 1) (k - length (toList o))) ≡ nthOf (toList o ++ rowsFrom f n (s + 1)) k
       go (some r) ih = rw (ih (k - 1)) (either (eqb k 1) r (nthOf (rowsFrom f n (s + 1)) (k - 1)))
       go none ih = rw (sub-zero k) (ih k)
 
@@ -184,22 +184,22 @@ module _ {A : Type 0} (f : ℕ → Option A) (n i s : ℕ) where
   unfolding countFrom
   count-end h = let e : n - i ≡ 0 = omega arith in rw e
 
-  nth-step : (k : ℕ) → i < n → nthFrom f (n - i) s k ≡ orElse (nthOf (toList (f s)) k) (nthFrom f (n - (i + 1)) (s + 1) (k - length (toList (f s))))
-  unfolding nthFrom
+  nth-step : (k : ℕ) → i < n → nthRowFrom f (n - i) s k ≡ orElse (nthOf (toList (f s)) k) (nthRowFrom f (n - (i + 1)) (s + 1) (k - length (toList (f s))))
+  unfolding nthRowFrom
   nth-step k h = let e : n - i ≡ suc (n - (i + 1)) = omega arith in rw e
 
-  pub nth-hit : (k : ℕ) (r : A) → i < n → f s ≡ some r → k ≡ 1 → nthFrom f (n - i) s k ≡ some r
+  pub nth-hit : (k : ℕ) (r : A) → i < n → f s ≡ some r → k ≡ 1 → nthRowFrom f (n - i) s k ≡ some r
   unfolding nthOf
   nth-hit k r h e p = nth-step k h ∙ rw (e, eq-eqb k 1 p)
 
-  pub nth-pass : (k : ℕ) (r : A) → i < n → f s ≡ some r → (k ≡ 1 → ⊥) → nthFrom f (n - i) s k ≡ nthFrom f (n - (i + 1)) (s + 1) (k - 1)
+  pub nth-pass : (k : ℕ) (r : A) → i < n → f s ≡ some r → (k ≡ 1 → ⊥) → nthRowFrom f (n - i) s k ≡ nthRowFrom f (n - (i + 1)) (s + 1) (k - 1)
   unfolding nthOf
   nth-pass k r h e p = nth-step k h ∙ rw (e, ne-eqb k 1 p)
 
-  pub nth-skip : (k : ℕ) → i < n → f s ≡ none → nthFrom f (n - i) s k ≡ nthFrom f (n - (i + 1)) (s + 1) k
+  pub nth-skip : (k : ℕ) → i < n → f s ≡ none → nthRowFrom f (n - i) s k ≡ nthRowFrom f (n - (i + 1)) (s + 1) k
   unfolding nthOf
   nth-skip k h e = nth-step k h ∙ rw (e, sub-zero k)
 
-  pub nth-end : (k : ℕ) → n ≤ i → nthFrom f (n - i) s k ≡ none
-  unfolding nthFrom
+  pub nth-end : (k : ℕ) → n ≤ i → nthRowFrom f (n - i) s k ≡ none
+  unfolding nthRowFrom
   nth-end k h = let e : n - i ≡ 0 = omega arith in rw e

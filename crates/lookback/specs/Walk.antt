@@ -32,6 +32,6 @@ nthOf [] k = none
 nthOf (r ∷ rs) k = pick (eqb k 1) (some r) (nthOf rs (k - 1))
 
 -- the k-th row of n slots from s on, from 1, by a walk over the slots
-unfoldable pub nthFrom : {A : Type 0} → (ℕ → Option A) → ℕ → ℕ → ℕ → Option A
-nthFrom f zero s k = none
-nthFrom f (suc n) s k = orElse (nthOf (toList (f s)) k) (nthFrom f n (s + 1) (k - length (toList (f s))))
+unfoldable pub nthRowFrom : {A : Type 0} → (ℕ → Option A) → ℕ → ℕ → ℕ → Option A
+nthRowFrom f zero s k = none
+nthRowFrom f (suc n) s k = orElse (nthOf (toList (f s)) k) (nthRowFrom f n (s + 1) (k - length (toList (f s))))

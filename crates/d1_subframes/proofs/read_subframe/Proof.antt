@@ -3,7 +3,7 @@ use borrow.Author.Tests.{ne-eqb}
 use mathlib.Core.Path.{_≡_, sym, ap, _∙_}
 use mathlib.Core.Bool.{true, false}
 use lib.ListN.{length}
-use Rattle.d1_subframes.specs.Subframe.{dataOf, refusalOf, readUnfit, readRefusal}
+use Rattle.d1_subframes.specs.Subframe.{dataOf, subframeRefusal, readUnfit, readRefusal}
 use Rattle.d1_subframes.proofs.AnswerLaws.{whole, read-unfit, read-judged, read-fits}
 use Rattle.d1_subframes.proofs.LoopLaws.{length-data}
 use Rattle.d1_subframes.proofs.read_subframe.Statement.{statement}
@@ -36,7 +36,7 @@ returns-2 c =
     let a = i .before .before .before .before .args in
     let t : readUnfit (a .room .now) (a .s .now) ≡ false = rw (← (i .before .get8 .ensures)) (i .if1 .left) in
     let e : readRefusal (a .room .now) (a .s .now) ≡ r .refusal-of .result =
-    read-judged (a .room .now) (a .s .now) t ∙ sym (r .refusal-of .ensures ∙ ap (refusalOf false) (d .data-of .ensures)) in
+    read-judged (a .room .now) (a .s .now) t ∙ sym (r .refusal-of .ensures ∙ ap (subframeRefusal false) (d .data-of .ensures)) in
     (rw (e, ne-eqb _ _ (c .if2 .taken)), rw (e, ne-eqb _ _ (c .if2 .taken)))
 
 slice-aggregate-store : tie.Need-slice-aggregate-store
@@ -58,7 +58,7 @@ returns-3 c =
     let a = i .before .before .before .before .args in
     let t : readUnfit (a .room .now) (a .s .now) ≡ false = rw (← (i .before .get8 .ensures)) (i .if1 .left) in
     let e : readRefusal (a .room .now) (a .s .now) ≡ 0 =
-    read-judged (a .room .now) (a .s .now) t ∙ sym (r .refusal-of .ensures ∙ ap (refusalOf false) (d .data-of .ensures)) ∙ j .if2 .left in
+    read-judged (a .room .now) (a .s .now) t ∙ sym (r .refusal-of .ensures ∙ ap (subframeRefusal false) (d .data-of .ensures)) ∙ j .if2 .left in
     let l : length (a .room .now) ≡ length (dataOf (a .s .now)) = read-fits (a .room .now) (a .s .now) t .1 ∙ sym (length-data (a .s .now)) in
     (rw e, rw (e, p .store .ensures, d .data-of .ensures) (whole (a .room .now) (dataOf (a .s .now)) l))
 

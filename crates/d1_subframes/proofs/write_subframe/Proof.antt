@@ -2,7 +2,7 @@ use borrow.Author.Needs.{needs}
 use borrow.Author.Tests.{ne-eqb}
 use mathlib.Core.Path.{_≡_, sym, _∙_}
 use lib.ListN.{length}
-use Rattle.d1_subframes.specs.Subframe.{subframeOf, writeRefusal}
+use Rattle.d1_subframes.specs.Subframe.{subframeOf, subframeWriteRefusal}
 use Rattle.d1_subframes.proofs.AnswerLaws.{whole, write-unfit, write-judged, write-fits}
 use Rattle.d1_subframes.proofs.LoopLaws.{length-subframe}
 use Rattle.d1_subframes.proofs.write_subframe.Statement.{statement}
@@ -22,7 +22,7 @@ returns-2 c =
     let r = c .before in
     let i = r .before in
     let a = i .before .before .before .args in
-    let e : writeRefusal (a .room .now) (a .s .now) ≡ r .refusal-of .result =
+    let e : subframeWriteRefusal (a .room .now) (a .s .now) ≡ r .refusal-of .result =
     write-judged (a .room .now) (a .s .now) (i .if1 .left) ∙ sym (r .refusal-of .ensures) in
     (rw (e, ne-eqb _ _ (c .if2 .taken)), rw (e, ne-eqb _ _ (c .if2 .taken)))
 
@@ -46,7 +46,7 @@ returns-3 c =
     let r = j .before in
     let i = r .before in
     let a = i .before .before .before .args in
-    let e : writeRefusal (a .room .now) (a .s .now) ≡ 0 =
+    let e : subframeWriteRefusal (a .room .now) (a .s .now) ≡ 0 =
     write-judged (a .room .now) (a .s .now) (i .if1 .left) ∙ sym (r .refusal-of .ensures) ∙ j .if2 .left in
     let l : length (a .room .now) ≡ length (subframeOf (a .s .now)) =
     write-fits (a .room .now) (a .s .now) (i .if1 .left) .1 ∙ sym (length-subframe (a .s .now)) in

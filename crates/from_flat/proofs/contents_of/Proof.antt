@@ -1,5 +1,5 @@
 use borrow.Author.Needs.{needs}
-use Rattle.from_flat.specs.Read.{contentsOf}
+use Rattle.from_flat.specs.Read.{flatContentsOf}
 use Rattle.from_flat.proofs.contents_of.Statement.{statement}
 use Rattle.from_flat.proofs.contents_of.Tie as tie
 
@@ -16,7 +16,7 @@ read-orbit-part-requires : tie.Need-read-orbit-part-requires
 read-orbit-part-requires c κs = search needs
 
 returns : tie.Need-returns
-unfolding contentsOf
+unfolding flatContentsOf
 returns c = rw (c .read-orbit-part .ensures, c .before .read-clock-part .ensures, c .before .before .read-mask .ensures, c .before .before .before .byte .ensures)
 
 pub contents-of-spec : {M : Type 1} → statement M

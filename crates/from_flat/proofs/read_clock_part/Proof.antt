@@ -1,5 +1,5 @@
 use borrow.Author.Needs.{needs}
-use Rattle.from_flat.specs.Read.{clocksIn}
+use Rattle.from_flat.specs.Read.{flatClocksIn}
 use Rattle.from_flat.proofs.read_clock_part.Statement.{statement}
 use Rattle.from_flat.proofs.read_clock_part.Tie as tie
 
@@ -22,7 +22,7 @@ read-clocks-requires : tie.Need-read-clocks-requires
 read-clocks-requires c κs = search needs
 
 returns : tie.Need-returns
-unfolding clocksIn
+unfolding flatClocksIn
 returns c = rw (c .read-clocks .ensures, c .before .byte3 .ensures, c .before .before .two .ensures, c .before .before .before .byte2 .ensures, c .before .before .before .before .byte .ensures, c .before .before .before .before .before .four .ensures)
 
 pub read-clock-part-spec : {M : Type 1} → statement M

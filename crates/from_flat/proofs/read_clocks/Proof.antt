@@ -9,12 +9,12 @@ use lib.ListN.{drop}
 use Rattle.bits.specs.Table.{table}
 use Rattle.bits.proofs.TableLaws.{fill-start, fill-step, fill-done}
 use Rattle.records.specs.Clock.{blankClock}
-use Rattle.from_flat.specs.Read.{clockNth, clocksAt}
+use Rattle.from_flat.specs.Read.{flatClockNth, flatClocksAt}
 use Rattle.from_flat.proofs.read_clocks.Statement.{statement}
 use Rattle.from_flat.proofs.read_clocks.Tie as tie
 
 abbrev Inv-loop : tie.InvT-loop
-Inv-loop t out₀ i₀ out i = (i ≤ 23) × (length out₀ ≡ 23) × (out ≡ table (clockNth t) i ++ drop i out₀)
+Inv-loop t out₀ i₀ out i = (i ≤ 23) × (length out₀ ≡ 23) × (out ≡ table (flatClockNth t) i ++ drop i out₀)
 
 abbrev μ-loop : tie.MeasureT-loop
 μ-loop t out₀ i₀ out i = 23 - i
@@ -52,7 +52,7 @@ loop-again c =
     (omega arith, refl, fill-step _ (l .i) _ _ _ blankClock (omega arith) (l .inv .2) (c .read-clock .ensures))
 
 returns : tie.Need-returns Inv-loop μ-loop
-unfolding clocksAt
+unfolding flatClocksAt
 returns c =
     let l = c .before .loop in
     fill-done _ (l .i) 23 _ _ (omega arith) refl (l .inv .2)

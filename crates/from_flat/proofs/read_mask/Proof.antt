@@ -1,5 +1,5 @@
 use borrow.Author.Needs.{needs}
-use Rattle.from_flat.specs.Read.{maskIn}
+use Rattle.from_flat.specs.Read.{flatMaskIn}
 use Rattle.from_flat.proofs.read_mask.Statement.{statement}
 use Rattle.from_flat.proofs.read_mask.Tie as tie
 
@@ -16,7 +16,7 @@ read-flags-requires : tie.Need-read-flags-requires
 read-flags-requires c κs = search needs
 
 returns : tie.Need-returns
-unfolding maskIn
+unfolding flatMaskIn
 returns c = rw (c .read-flags .ensures, c .before .byte2 .ensures, c .before .before .byte .ensures, c .before .before .before .four .ensures)
 
 pub read-mask-spec : {M : Type 1} → statement M

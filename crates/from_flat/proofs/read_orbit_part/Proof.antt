@@ -1,5 +1,5 @@
 use borrow.Author.Needs.{needs}
-use Rattle.from_flat.specs.Read.{orbitsIn}
+use Rattle.from_flat.specs.Read.{flatOrbitsIn}
 use Rattle.from_flat.proofs.read_orbit_part.Statement.{statement}
 use Rattle.from_flat.proofs.read_orbit_part.Tie as tie
 
@@ -16,7 +16,7 @@ read-orbits-requires : tie.Need-read-orbits-requires
 read-orbits-requires c κs = search needs
 
 returns : tie.Need-returns
-unfolding orbitsIn
+unfolding flatOrbitsIn
 returns c = rw (c .read-orbits .ensures, c .before .byte2 .ensures, c .before .before .byte .ensures, c .before .before .before .four .ensures)
 
 pub read-orbit-part-spec : {M : Type 1} → statement M

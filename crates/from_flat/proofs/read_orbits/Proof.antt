@@ -9,12 +9,12 @@ use lib.ListN.{drop}
 use Rattle.bits.specs.Table.{table}
 use Rattle.bits.proofs.TableLaws.{fill-start, fill-step, fill-done}
 use Rattle.records.specs.Orbit.{blankOrbit}
-use Rattle.from_flat.specs.Read.{orbitNth, orbitsAt}
+use Rattle.from_flat.specs.Read.{flatOrbitNth, flatOrbitsAt}
 use Rattle.from_flat.proofs.read_orbits.Statement.{statement}
 use Rattle.from_flat.proofs.read_orbits.Tie as tie
 
 abbrev Inv-loop : tie.InvT-loop
-Inv-loop t out₀ i₀ out i = (i ≤ 6) × (length out₀ ≡ 6) × (out ≡ table (orbitNth t) i ++ drop i out₀)
+Inv-loop t out₀ i₀ out i = (i ≤ 6) × (length out₀ ≡ 6) × (out ≡ table (flatOrbitNth t) i ++ drop i out₀)
 
 abbrev μ-loop : tie.MeasureT-loop
 μ-loop t out₀ i₀ out i = 6 - i
@@ -52,7 +52,7 @@ loop-again c =
     (omega arith, refl, fill-step _ (l .i) _ _ _ blankOrbit (omega arith) (l .inv .2) (c .read-orbit .ensures))
 
 returns : tie.Need-returns Inv-loop μ-loop
-unfolding orbitsAt
+unfolding flatOrbitsAt
 returns c =
     let l = c .before .loop in
     fill-done _ (l .i) 6 _ _ (omega arith) refl (l .inv .2)

@@ -3,7 +3,7 @@ use borrow.Author.Needs.{needs}
 use mathlib.Core.Bool.{true, false}
 use mathlib.Core.Path.{_≡_, sym}
 use Rattle.lent.proofs.DropLaws.{drop-yes, drop-no}
-use Rattle.held_clocks.specs.Clocks.{clocksKept, clockOf, clockBytes, clockAt}
+use Rattle.held_clocks.specs.Clocks.{clocksKept, heldClockOf, heldClockBytes, heldClockAt}
 use Rattle.held_clocks.proofs.drop_clock.Statement.{statement}
 use Rattle.held_clocks.proofs.drop_clock.Tie as tie
 
@@ -23,8 +23,8 @@ returns : tie.Need-returns
 returns c =
     let c6 = c .before .before .before .before .before .before in
     let a = c6 .before .before .before .args in
-    let e : clockAt (a .t .now) (a .slot .0) .placed ≡ true = rw (c6 .get-clock .ensures) at (c .before .before .before .before .before .if1 .taken) in
-    rw (c .before .before .put-clock .ensures, c .before .before .before .no-clock .ensures) (sym (drop-yes clocksKept clockOf clockBytes 12 (a .t .now) 260 (a .slot .0) e))
+    let e : heldClockAt (a .t .now) (a .slot .0) .placed ≡ true = rw (c6 .get-clock .ensures) at (c .before .before .before .before .before .if1 .taken) in
+    rw (c .before .before .put-clock .ensures, c .before .before .before .no-clock .ensures) (sym (drop-yes clocksKept heldClockOf heldClockBytes 12 (a .t .now) 260 (a .slot .0) e))
 
 same-length-2 : tie.Need-same-length-2
 same-length-2 c = search needs
@@ -32,8 +32,8 @@ same-length-2 c = search needs
 returns-2 : tie.Need-returns-2
 returns-2 c =
     let a = c .before .before .before .before .args in
-    let e : clockAt (a .t .now) (a .slot .0) .placed ≡ false = rw (c .before .get-clock .ensures) at (c .if1 .left) in
-    sym (drop-no clocksKept clockOf clockBytes 12 (a .t .now) 260 (a .slot .0) e)
+    let e : heldClockAt (a .t .now) (a .slot .0) .placed ≡ false = rw (c .before .get-clock .ensures) at (c .if1 .left) in
+    sym (drop-no clocksKept heldClockOf heldClockBytes 12 (a .t .now) 260 (a .slot .0) e)
 
 pub drop-clock-spec : {M : Type 1} → statement M
 drop-clock-spec =

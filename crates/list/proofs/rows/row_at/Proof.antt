@@ -4,7 +4,7 @@ use Prim.Native.Nat.{ℕ, _+_, _-_, _≤_, _<_}
 use mathlib.Core.Path.{_≡_, sym, ap, _∙_}
 use lib.ListN.{length}
 use mathlib.Core.Logic.{inl}
-use Rattle.lookback.specs.Walk.{nthFrom, nthOf}
+use Rattle.lookback.specs.Walk.{nthRowFrom, nthOf}
 use Rattle.lookback.proofs.WalkLaws.{nth-hit, nth-pass, nth-skip, nth-end, nth-rows, nth-missing}
 use Rattle.list.specs.Row.{rowSays, answerOf}
 use Rattle.list.specs.Rows.{rowIn, listIn}
@@ -15,7 +15,7 @@ use Rattle.list.proofs.rows.row_at.Tie as tie
 
 abbrev Inv-loop : tie.InvT-loop
 Inv-loop ledger issues n why left₀ i₀ left i =
-    (i ≤ 255) × (1 ≤ left) × (length issues ≡ 255) × (nthFrom (rowIn ledger issues) (255 - i) (i + 1) left ≡ nthOf (listIn ledger issues) n)
+    (i ≤ 255) × (1 ≤ left) × (length issues ≡ 255) × (nthRowFrom (rowIn ledger issues) (255 - i) (i + 1) left ≡ nthOf (listIn ledger issues) n)
 
 abbrev μ-loop : tie.MeasureT-loop
 μ-loop ledger issues n why left₀ i₀ left i = 255 - i
