@@ -1,0 +1,4 @@
+pub mod UnitLaws
+pub mod MakeLaws
+pub mod CheckLaws
+pub mod Theorems

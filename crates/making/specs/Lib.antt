@@ -1,0 +1,4 @@
+pub mod Make
+pub mod Check
+pub mod Units
+pub mod Theorems
