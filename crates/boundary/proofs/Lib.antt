@@ -2,3 +2,4 @@ pub mod DetailLaws
 pub mod BoundaryLaws
 pub mod ReplayLaws
 pub mod D1Laws
+pub mod MakeLaws

@@ -2,3 +2,4 @@ pub mod Size
 pub mod Detail
 pub mod Boundary
 pub mod D1
+pub mod Make

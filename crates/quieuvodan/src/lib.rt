@@ -5,6 +5,7 @@ ghost use lib.ListN.{length};
 ghost use Rattle.bits.specs.Bytes.{storeAt};
 ghost use Rattle.verdict.specs.Verdict.{says, numberIn};
 ghost use Rattle.message.specs.Read.{readingSays};
+ghost use Rattle.making.specs.Make.{Leaves};
 ghost use Rattle.pieces.specs.Pieces.{pieceLength};
 ghost use Rattle.in_force.specs.Bytes.{runBytes, framesOf};
 ghost use Rattle.list.specs.Row.{rowSays};
@@ -12,6 +13,7 @@ ghost use Rattle.list.specs.Rows.{foundCount, listIn};
 ghost use Rattle.boundary.specs.Size.{contentsSize, rowSize};
 ghost use Rattle.boundary.specs.Detail.{detailIn};
 ghost use Rattle.boundary.specs.D1.{d1ReadAnswer, d1ReadRoom, d1WriteAnswer, d1WriteRoom};
+ghost use Rattle.boundary.specs.Make.{makeAnswer, checkAnswer};
 ghost use Rattle.boundary.specs.Boundary.{openAnswer, openRoom, takeAnswer, takeRoom, verdictsOf, replayRefusal, replayAnswer, replayLedger, replayVerdicts, answerBytes, rowsBytes, rowsAnswer, rowsRoom, rowAnswer, rowRoom, readingRoom, readAnswer, readRoom, frameAnswer, frameRoom, writeAnswer, writeRoom};
 use d1_subframes::read_subframe;
 use d1_subframes::write_subframe;
@@ -312,6 +314,23 @@ pub extern "C" fn qvd_write(contents: &[u8], room: &mut [u8]) -> u8
         return 39;
     }
     number_of(write(room, contents_of(contents)))
+}
+
+// The 125 bytes of a message's frame, with a PRN and the six flags; on a refusal the room is as it was. 1, 2, 4, 16.
+#[no_mangle]
+pub extern "C" fn qvd_make_frame(message: &[u8], prn: u8, flags: u8, frame: &mut [u8]) -> u8
+    ensures answer { λ r. ⌜ r ≡ makeAnswer (now (message .entry)) prn flags (now (frame .entry)) ⌝ }
+    ensures bytes { λ r. ⌜ Leaves (now (message .entry)) prn flags (now (frame .entry)) (now (frame .exit)) ⌝ }
+{
+    number_of(making::make(message, prn, flags, frame))
+}
+
+// A frame is checked against its message, and the answer also says what the number 6 carries. 1, 2, 3, 6, 38.
+#[no_mangle]
+pub extern "C" fn qvd_check_frame(message: &[u8], frame: &[u8]) -> u32
+    ensures { λ r. ⌜ r ≡ checkAnswer (now (message .entry)) (now (frame .entry)) ⌝ }
+{
+    detail(making::check(message, frame))
 }
 
 // The 28 bytes of a subframe's information bits, its code words corrected; on a refusal the room is as it was. 31 to 34.
