@@ -11,8 +11,9 @@ use lib.ListN.{length}
 use borrow.Author.Tests.{eq-eqb, ne-eqb, eqb-true, not-false}
 use Rattle.bits.specs.Bits.{fieldAt}
 use Rattle.bits.specs.Pick.{pick}
+use Rattle.bits.proofs.TestLaws.{none-holds}
 use Rattle.parity.specs.Parity.{symbolOf, parityOk}
-use Rattle.frame.proofs.FrameLaws.{skipped, no-test}
+use Rattle.frame.proofs.FrameLaws.{skipped}
 use Rattle.making.specs.Make.{messageSymbol, wrongLength}
 use Rattle.making.specs.Check.{keeps, checkRefusal}
 
@@ -75,7 +76,7 @@ module _ (message frame : List ℕ) where
       let r3 = skipped 3 b3 n6 (omega arith) (r2 .1) in
       let r6 = skipped 6 b6 n38 (omega arith) (r3 .1) in
       let r38 = skipped 38 b38 0 (omega arith) (r6 .1) in
-      let l = no-test (not (eqb (length message) 61)) (not (eqb (length frame) 125)) (r1 .0) in
+      let l = none-holds (not (eqb (length message) 61)) (not (eqb (length frame) 125)) (r1 .0) in
       record {
         long = eqb-true (length message) 61 (not-false _ (l .0));
         wide = eqb-true (length frame) 125 (not-false _ (l .1));

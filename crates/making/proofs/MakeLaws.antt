@@ -14,9 +14,10 @@ use Rattle.bits.specs.Pick.{pick}
 use Rattle.bits.specs.Table.{table}
 use Rattle.bits.proofs.FieldLaws.{field-lt}
 use Rattle.bits.proofs.TableLaws.{length-table, getD-table, fill-done}
+use Rattle.bits.proofs.TestLaws.{none-holds}
 use Rattle.one_parity.specs.OneParity.{IsParity}
 use Rattle.frame.specs.Frame.{isPrn}
-use Rattle.frame.proofs.FrameLaws.{skipped, no-test}
+use Rattle.frame.proofs.FrameLaws.{skipped}
 use Rattle.making.specs.Make.{messageSymbol, messageSymbols, framed, Made, wrongLength, makeRefusal, Leaves}
 use Rattle.making.specs.Units.{unitOf, frameByte}
 use Rattle.making.proofs.UnitLaws.{framed-bytes}
@@ -116,7 +117,7 @@ taken message prn flags room e =
     let r2 = skipped 2 (not (eqb (fieldAt message 486 2) 0)) n4 (omega arith) (r1 .1) in
     let r4 = skipped 4 (not (isPrn prn)) n16 (omega arith) (r2 .1) in
     let r16 = skipped 16 (ltb 63 flags) 0 (omega arith) (r4 .1) in
-    let l = no-test (not (eqb (length message) 61)) (not (eqb (length room) 125)) (r1 .0) in
+    let l = none-holds (not (eqb (length message) 61)) (not (eqb (length room) 125)) (r1 .0) in
     record {
       long = eqb-true (length message) 61 (not-false _ (l .0));
       wide = eqb-true (length room) 125 (not-false _ (l .1));
@@ -129,4 +130,4 @@ pub lengths-right : (m r : ℕ) → m ≡ 61 → r ≡ 125 → wrongLength m r �
 lengths-right m r e f = rw (eq-eqb m 61 e, eq-eqb r 125 f)
 
 pub room-right : (m r : ℕ) → wrongLength m r ≡ false → r ≡ 125
-room-right m r e = eqb-true r 125 (not-false _ (no-test (not (eqb m 61)) (not (eqb r 125)) e .1))
+room-right m r e = eqb-true r 125 (not-false _ (none-holds (not (eqb m 61)) (not (eqb r 125)) e .1))
