@@ -46,6 +46,8 @@ pub(crate) const ORBIT_EPOCH: u8 = 12;
 
 pub(crate) const ORBIT_SSR: u8 = 13;
 
+pub(crate) const PRN: u8 = 14;
+
 // What else can be expected.
 pub(crate) const NUMBER: u8 = 21;
 
@@ -117,7 +119,7 @@ fn put_key(room: &mut [u8], at: usize, k: u8) -> usize
     put_nth(
         room,
         at,
-        b"type epoch ssr iodp slots orbits sub clocks clock-epoch clock-ssr from orbit-epoch orbit-ssr",
+        b"type epoch ssr iodp slots orbits sub clocks clock-epoch clock-ssr from orbit-epoch orbit-ssr prn",
         k,
     )
 }

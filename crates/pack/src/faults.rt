@@ -9,40 +9,46 @@ use console::turns::Pass;
 use console::words::next_word;
 
 // A line cannot be read.
-pub(crate) fn say_unread(name: &[u8], p: Pass) -> u8 {
+pub(crate) fn say_unread(name: &[u8], p: Pass, frames: bool) -> u8 {
+    if frames {
+        return console::turns::say_unread(b"pack", name, b"frame", p);
+    }
     console::turns::say_unread(b"pack", name, b"message", p)
 }
 
 // What is wrong with a line, in words.
-pub(crate) fn say_line(name: &[u8], p: Pass, what: &[u8]) -> u8 {
+pub(crate) fn say_line(name: &[u8], p: Pass, frames: bool, what: &[u8]) -> u8 {
+    if frames {
+        return console::turns::say_line(b"pack", name, b"frame", p, what);
+    }
     console::turns::say_line(b"pack", name, b"message", p, what)
 }
 
 // What a line says is refused.
-pub(crate) fn say_refused(name: &[u8], p: Pass, n: u8) -> u8 {
+pub(crate) fn say_refused(name: &[u8], p: Pass, frames: bool, n: u8) -> u8 {
     let mut room = [0u8; 120];
     let a = put_bytes(&mut room, 0, b"refused ");
     let b = put_number(&mut room, a, n as u64);
     let c = put_bytes(&mut room, b, b": ");
     let d = put_refusal(&mut room, c, n);
-    say_line(name, p, &room[..d])
+    say_line(name, p, frames, &room[..d])
 }
 
 // A line is malformed, with a word of it.
-fn say_word(name: &[u8], p: Pass, c: Cursor, word: &[u8]) -> u8 {
+fn say_word(name: &[u8], p: Pass, frames: bool, c: Cursor, word: &[u8]) -> u8 {
     let mut room = [0u8; 160];
     let a = put_bytes(&mut room, 0, b"word ");
     let b = put_number(&mut room, a, c.word as u64);
     let d = put_bytes(&mut room, b, b": expected ");
     let e = put_expected(&mut room, d, c.fault);
     let f = put_found(&mut room, e, word);
-    say_line(name, p, &room[..f])
+    say_line(name, p, frames, &room[..f])
 }
 
 // A line is malformed: what was expected at which word, and the word that was found.
-pub(crate) fn say_malformed(name: &[u8], p: Pass, s: &[u8], c: Cursor) -> u8 {
+pub(crate) fn say_malformed(name: &[u8], p: Pass, frames: bool, s: &[u8], c: Cursor) -> u8 {
     let w = next_word(s, c.at);
     let a = w.from;
     let b = w.to;
-    say_word(name, p, c, &s[a..b])
+    say_word(name, p, frames, c, &s[a..b])
 }

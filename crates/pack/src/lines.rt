@@ -1,6 +1,8 @@
-// The line of a message: its contents, or where and what was expected.
+// The line of a message or a frame: its PRN and contents, or where and what was expected.
 use crate::cursor::Cursor;
 use crate::cursor::EPOCH;
+use crate::cursor::Got;
+use crate::cursor::PRN;
 use crate::cursor::SSR;
 use crate::cursor::TYPE;
 use crate::cursor::byte_of;
@@ -115,9 +117,18 @@ fn parts(s: &[u8], p: Cursor, kind: u8) -> Line {
     }
 }
 
-// The line of a message.
-pub(crate) fn read_message(s: &[u8]) -> Line {
-    let t = field(s, start(), TYPE);
+// The PRN that the line of a frame begins with; the line of a message has none.
+pub(crate) fn read_prn(s: &[u8], frames: bool) -> Got {
+    if frames {
+        return field(s, start(), PRN);
+    }
+    let cursor = start();
+    Got { cursor, value: 0 }
+}
+
+// The message of a line, from a cursor to the line's end.
+pub(crate) fn read_message(s: &[u8], from: Cursor) -> Line {
+    let t = field(s, from, TYPE);
     let p = t.cursor;
     if p.fault != 0 {
         return bare(p, 0);

@@ -13,10 +13,10 @@ use Rattle.console.proofs.lines.next_line.Reads as next-line-reads
 use Rattle.console.proofs.turns.counted.Reads as counted-reads
 
 abbrev Inv-loop : tie.InvT-loop
-Inv-loop fd name room₀ writes l₀ state₀ written₀ left₀ room l state written left = length room ≡ length room₀
+Inv-loop fd name room₀ frames writes l₀ state₀ written₀ left₀ room l state written left = length room ≡ length room₀
 
 abbrev μ-loop : tie.MeasureT-loop
-μ-loop fd name room₀ writes l₀ state₀ written₀ left₀ room l state written left = left
+μ-loop fd name room₀ frames writes l₀ state₀ written₀ left₀ room l state written left = left
 
 begin-requires : tie.Need-begin-requires Inv-loop μ-loop
 begin-requires c κs = search needs
