@@ -1,8 +1,8 @@
 /* Makes many messages, frames, logs, contents and subframes from a fixed seed,
  * good and damaged, hands them to the library and to the independent
  * implementation, and compares verdicts and what they give beside their number,
- * the pieces of torn logs, contents, written bytes, rows, and that what was lent
- * stays as it was on a refusal.
+ * the pieces of torn logs, contents, written bytes, made frames, rows, and that
+ * what was lent stays as it was on a refusal.
  *
  *   compare [SEED [PERCENT]]    PERCENT of the standard run's size, 100 if not given
  *
@@ -80,24 +80,24 @@ static uint8_t *room_end(size_t size)
 
 enum { MARGIN = 32, LOG_FRAMES = 8192, MOST_LEDGER = QVD_LEDGER_BYTES + 64 };
 
-static uint8_t *input_end, *output_end, *ledger_end, *log_end, *verdicts_end, *issues_end;
+static uint8_t *input_end, *message_end, *output_end, *ledger_end, *log_end, *verdicts_end, *issues_end;
 
 /* ---- what is being compared, and the first difference in full ---- */
 
 enum call {
     OPEN, TAKE, TAKE_DETAIL, REPLAY, REPLAY_DETAIL, READ, READ_FRAME, READ_FRAME_DETAIL, WRITE, ROWS, ROW, D1_READ,
-    D1_WRITE, CALLS, NEXT_PIECE = CALLS /* this last one refuses nothing */
+    D1_WRITE, MAKE_FRAME, CHECK_FRAME, CALLS, NEXT_PIECE = CALLS /* this last one refuses nothing */
 };
 static const char *const call_name[CALLS + 1] = {
     "open", "take", "take_detail", "replay", "replay_detail", "read", "read_frame", "read_frame_detail", "write", "rows",
-    "row", "d1_read", "d1_write", "next_piece"
+    "row", "d1_read", "d1_write", "make_frame", "check_frame", "next_piece"
 };
 
 enum { MOST_VERDICT = 40, WANTED = 500 };
 static unsigned long tally[CALLS][MOST_VERDICT];
 static unsigned long comparisons, differences;
 static unsigned long lists_with_rows, rows_seen, masks_changed, frames_noise;
-static unsigned long rows_of_any_bytes, subframes_corrected;
+static unsigned long rows_of_any_bytes, subframes_corrected, frames_read_back;
 static unsigned long pieces_compared, pieces_of_length[FRAME_BYTES + 1], overlaps_seen;
 
 /* What came beside the numbers 6 and 19. */
@@ -112,7 +112,9 @@ static struct {
     const uint16_t *issues;
     size_t issue_count;
     unsigned slot;
-    unsigned prn;
+    unsigned prn, flags;
+    const uint8_t *message; /* that a frame is checked against */
+    size_t message_bytes;
     const uint8_t *log;    /* frames handed in so far, each with its length before it in two bytes */
     size_t log_bytes;
 } now;
@@ -123,6 +125,7 @@ static void begin(const char *part)
 {
     now.part = part;
     now.log = NULL;
+    now.message = NULL;
     random_state = seed * UINT64_C(0xD1342543DE82EF95);
     while (*part != 0)
         random_state = (random_state ^ (uint8_t)*part++) * UINT64_C(0x100000001B3);
@@ -143,6 +146,10 @@ static void print_case(const char *what)
         printf("  slot %u\n", now.slot);
     if (now.call <= REPLAY_DETAIL || now.log != NULL)
         printf("  prn %u\n", now.prn);
+    if (now.call == MAKE_FRAME)
+        printf("  prn %u, flags %u\n", now.prn, now.flags);
+    if (now.message != NULL)
+        print_bytes("message", now.message, now.message_bytes);
     if (now.input != NULL)
         print_bytes("input", now.input, now.input_bytes);
     if (now.issues != NULL) {
@@ -1788,6 +1795,180 @@ static void compare_subframes(unsigned long count)
     }
 }
 
+/* ---- frames made from messages, and checked against them ---- */
+
+/* A length that is right, one near it, that of the other of the two, or any. */
+static size_t some_near_length(size_t right, size_t other)
+{
+    return chance(60) ? right - 1 + 2 * below(2) : chance(40) ? other : below(200);
+}
+
+/* A made frame whose first flag is 0 reads as its message does, both by the
+ * library; the contents' room is touched by neither if it is refused. */
+static void compare_read_back(const uint8_t *message, const uint8_t *frame, unsigned flags)
+{
+    static uint8_t of_message[QVD_CONTENTS_BYTES], of_frame[QVD_CONTENTS_BYTES];
+    unsigned alone = qvd_read(message, MESSAGE_BYTES, of_message, sizeof of_message);
+    unsigned framed = qvd_read_frame(frame, FRAME_BYTES, of_frame, sizeof of_frame);
+
+    if (flags >= 32) {
+        same_number("verdict on the made frame, withdrawn", framed, 5);
+        return;
+    }
+    same_number("verdict on the made frame, as on its message", framed, alone);
+    if (alone == 0)
+        same_bytes("contents of the made frame, as of its message", of_frame, of_message, sizeof of_frame);
+    frames_read_back++;
+}
+
+/* Checks a frame of m bytes against a message of n. */
+static void compare_check(const uint8_t *message, size_t n, const uint8_t *frame, size_t m)
+{
+    uint8_t *input = input_end - m, *against = message_end - n;
+    struct detail detail;
+    uint32_t library;
+    unsigned reference;
+
+    memcpy(input, frame, m);
+    memcpy(against, message, n);
+    now.call = CHECK_FRAME;
+    now.input = input;
+    now.input_bytes = m;
+    now.message = against;
+    now.message_bytes = n;
+    library = qvd_check_frame(against, n, input, m);
+    reference = ref_check_frame(message, n, frame, m, &detail);
+    same_detail(CHECK_FRAME, library, reference, &detail);
+    same_bytes("the frame afterwards", input, frame, m);
+    same_bytes("the message afterwards", against, message, n);
+    now.message = NULL;
+}
+
+/* Makes a frame in a room of m bytes of a message of n. One that is made is
+ * accepted against its message, and reads as that does. */
+static void compare_make(const uint8_t *message, size_t n, unsigned prn, unsigned flags, size_t m)
+{
+    uint8_t *input = input_end - n, *output = lend(m);
+    unsigned library, reference;
+
+    memcpy(input, message, n);
+    now.call = MAKE_FRAME;
+    now.input = input;
+    now.input_bytes = n;
+    now.prn = prn;
+    now.flags = flags;
+    library = qvd_make_frame(input, n, (uint8_t)prn, (uint8_t)flags, output, m);
+    reference = ref_make_frame(message, n, prn, flags, lent.should + MARGIN, m);
+    same_verdict(MAKE_FRAME, library, reference);
+    lent_is_right("frame");
+    same_bytes("the input afterwards", input, message, n);
+    if (library == 0 && reference == 0) {
+        uint8_t made[FRAME_BYTES];
+        memcpy(made, output, sizeof made);
+        same_number("verdict on the made frame, against its message", qvd_check_frame(input, n, made, sizeof made), 0);
+        compare_read_back(message, made, flags);
+    }
+}
+
+/* Symbol i, from 0, of the coded part becomes another. */
+static void change_symbol(uint8_t *frame, unsigned i)
+{
+    size_t at = 28 + 6 * (size_t)i;
+    ref_put_bits(frame, at, 6, ref_get_bits(frame, at, 6) ^ between(1, 63));
+}
+
+/* Changes some of a message's 486 bits: one, one symbol, several bits, or all. */
+static void change_message(uint8_t message[MESSAGE_BYTES])
+{
+    unsigned at = 6 * below(MESSAGE_SYMBOLS);
+    switch (below(5)) {
+    case 0: flip_bits(message, 0, 485, 1); break;
+    case 1: at = chance(50) ? 0 : 485; flip_bits(message, at, at, 1); break;
+    case 2: ref_put_bits(message, at, 6, ref_get_bits(message, at, 6) ^ between(1, 63)); break;
+    case 3: flip_bits(message, 0, 485, 2 + below(40)); break;
+    default: any_bytes(message, MESSAGE_BYTES); break;
+    }
+}
+
+/* A frame that is not the message's, in one of these ways or in several: other
+ * message symbols with the parity that is right for them; another sync; one wrong
+ * symbol or many, of the message or of the parity; one failing group; noise. PRN
+ * and flags are any. */
+static void some_wrong_frame(const uint8_t message[MESSAGE_BYTES], uint8_t frame[FRAME_BYTES])
+{
+    uint8_t changed[MESSAGE_BYTES];
+    unsigned prn = below(64), flags = below(64), way = below(9), many = chance(50) ? 1 : between(2, 40), group;
+    bool other = way <= 3;
+
+    memcpy(changed, message, MESSAGE_BYTES);
+    if (other)
+        change_message(changed);
+    ref_encode(changed, prn, flags, frame);
+    if (way == 3) /* both 6 and 38 */
+        way = between(4, 7);
+    if (way == 4 || way == 5)
+        while (many-- > 0)
+            change_symbol(frame, (way == 5 ? MESSAGE_SYMBOLS : 0) + below(MESSAGE_SYMBOLS));
+    if (way == 6) {
+        group = below(GROUPS);
+        ref_spoil(frame, group, (uint8_t)between(1, 63));
+    }
+    if (way == 7 && chance(30)) {
+        any_bytes(frame + 2, FRAME_BYTES - 2);
+        frames_noise++;
+    } else if (way == 7) {
+        flip_bits(frame, 28, 999, 1 + below(3));
+    }
+    if (way == 8 || chance(4))
+        flip_bits(frame, 0, 15, 1 + below(2));
+}
+
+static void compare_made(unsigned long count)
+{
+    struct leaning l;
+    uint8_t message[256], frame[256];
+
+    begin("made frame");
+    now.issues = NULL;
+    any_bytes(message, sizeof message);
+    message[MESSAGE_BYTES - 1] &= 0xFC;
+    for (unsigned prn = 0; prn < 256; prn++)
+        for (unsigned flags = 0; flags < 256; flags++) {
+            now.number = 256 * prn + flags;
+            compare_make(message, MESSAGE_BYTES, prn, flags, FRAME_BYTES);
+        }
+    for (unsigned long i = 0; i < count; i++) {
+        unsigned prn = chance(92) ? PICK(ten) : below(256);
+        unsigned flags = chance(60) ? 0 : chance(80) ? below(64) : chance(50) ? 64 : below(256);
+        size_t n = MESSAGE_BYTES, m = FRAME_BYTES;
+
+        now.number = i;
+        if (i % 50 == 0)
+            some_leaning(&l);
+        make_message(&l, 0, 40);
+        any_bytes(message, sizeof message);
+        any_bytes(frame, sizeof frame);
+        if (chance(70))
+            memcpy(message, draft.bytes, MESSAGE_BYTES);
+        else if (chance(10))
+            memset(message, chance(50) ? 0 : 255, MESSAGE_BYTES);
+        message[MESSAGE_BYTES - 1] &= 0xFC;
+        if (chance(8))
+            message[MESSAGE_BYTES - 1] |= (uint8_t)between(1, 3);
+        if (chance(8))
+            n = some_near_length(MESSAGE_BYTES, FRAME_BYTES);
+        if (chance(8))
+            m = some_near_length(FRAME_BYTES, MESSAGE_BYTES);
+        compare_make(message, n, prn, flags, m);
+        ref_encode(message, prn, flags, frame);
+        compare_check(message, n, frame, m);
+        some_wrong_frame(message, frame);
+        compare_check(message, n, frame, m);
+        some_wrong_frame(message, frame);
+        compare_check(message, n, frame, m);
+    }
+}
+
 /* ---- the run ---- */
 
 /* The refusals that each call can give; each must have come WANTED times. (A
@@ -1806,6 +1987,8 @@ static const uint8_t gives[CALLS][16] = {
     [ROW] = { 1, 11, 17, 18 },
     [D1_READ] = { 31, 32, 33, 34 },
     [D1_WRITE] = { 31, 32, 33, 34 },
+    [MAKE_FRAME] = { 1, 2, 4, 16 },
+    [CHECK_FRAME] = { 1, 2, 3, 6, 38 },
 };
 
 static unsigned long calls_of(enum call call)
@@ -1866,6 +2049,7 @@ static void print_table(void)
         printf(" %7lu", calls_of((enum call)c));
     printf("\n%lu mask changes, %lu frames of noise, %lu lists with rows, %lu rows, %lu rows of any bytes\n",
            masks_changed, frames_noise, lists_with_rows, rows_seen, rows_of_any_bytes);
+    printf("%lu made frames read as their messages\n", frames_read_back);
     printf("%lu subframes with at most one flip in each code word\n", subframes_corrected);
     printf("%lu pieces, %lu pairs of good frames that overlap\n", pieces_compared, overlaps_seen);
     printf("beside 6 and 19: %u first groups, %u numbers of failing groups, %u numbers of places\n",
@@ -1892,6 +2076,10 @@ static bool too_few(void)
         printf("compare: not every parity group was the first to fail\n");
         few = true;
     }
+    if (frames_read_back < 5000) {
+        printf("compare: only %lu made frames were read back\n", frames_read_back);
+        few = true;
+    }
     if (calls_of(TAKE) < 100000 || calls_of(TAKE_DETAIL) < 50000 || calls_of(READ) < 100000 ||
         calls_of(WRITE) < 50000 || lists_with_rows < 10000 || pieces_compared < 20000 || overlaps_seen < 100) {
         printf("compare: fewer frames, messages, lists or pieces than the standard run has\n");
@@ -1911,6 +2099,7 @@ int main(int argc, char **argv)
     signal(SIGILL, stopped);
     seed = argc > 1 ? strtoull(argv[1], NULL, 10) : 1;
     input_end = room_end(1024);
+    message_end = room_end(256);
     output_end = room_end(MARGIN + QVD_ROWS_BYTES + 64);
     ledger_end = room_end(MARGIN + MOST_LEDGER);
     log_end = room_end(FRAME_BYTES * LOG_FRAMES);
@@ -1925,6 +2114,7 @@ int main(int argc, char **argv)
     compare_frames(400 * percent);
     compare_writes(800 * percent);
     compare_subframes(600 * percent);
+    compare_made(100 * percent);
     compare_pieces(40 * percent);
     begin("log");
     while (calls_of(TAKE) < 1200 * percent)

@@ -1,10 +1,17 @@
-/* make_samples FOLDER
+/* make_samples FOLDER, make_samples -f FRAMES FOLDER or make_samples -u FILE
  *
  * Writes night.log, issues.txt and night.messages: eight minutes of one
  * night's frames from PRN 60, a frame a second, as a receiver may have stored
  * them. A second mask comes in the middle; some seconds are damaged, some are
  * another satellite's, one says that the service is withdrawn, and the log
  * breaks off inside a frame.
+ *
+ * night.log is the frames that were sent with damage laid over them. With -f the
+ * frames are those of FRAMES, as pack -f makes them of night-frames.txt; without
+ * it they are encoded here, and only -u writes these, undamaged, to FILE alone.
+ * Both must be the same bytes. Frames that show -f cannot print as a line have
+ * none in that text and are always encoded here, as part of the damage: type 3,
+ * which is not read yet, and a wrong check under right parity.
  *
  * And night-1.log, night-2.log and night-issues.txt: a whole night of more than
  * four hours, of which one frame in 24 seconds is kept. It goes over midnight,
@@ -271,15 +278,26 @@ static void sent(unsigned second, uint8_t message[MESSAGE_BYTES])
 
 static void flip(uint8_t *bytes, unsigned bit) { bytes[bit / 8] ^= (uint8_t)(0x80 >> bit % 8); }
 
-/* What the receiver stored of it. */
+static bool is_type_3(const uint8_t message[MESSAGE_BYTES]) { return ref_get_bits(message, 0, 6) == 3; }
+
+/* The frame of it, by the encoder here. Some seconds are another satellite's. */
+static void encoded(unsigned second, const uint8_t message[MESSAGE_BYTES], uint8_t frame[FRAME_BYTES])
+{
+    ref_encode(message, second >= 210 && second < 216 ? OTHER_PRN : PRN, 0, frame);
+}
+
+/* What the receiver stored of it: damage is laid over the frame. */
 static void received(unsigned second, const uint8_t message[MESSAGE_BYTES], uint8_t frame[FRAME_BYTES])
 {
     uint8_t changed[MESSAGE_BYTES];
 
     memcpy(changed, message, MESSAGE_BYTES);
-    if (second == 365)
-        flip(changed, 100); /* a wrong check under right parity */
-    ref_encode(changed, second >= 210 && second < 216 ? OTHER_PRN : PRN, second == 301 ? 0x20 : 0, frame);
+    if (second == 365) { /* a wrong check under right parity */
+        flip(changed, 100);
+        encoded(second, changed, frame);
+    }
+    if (second == 301) /* the service is withdrawn */
+        flip(frame, 22);
     if (second >= 130 && second < 139) /* a burst of noise */
         for (unsigned i = 0; i < 1 + scatter(second, 6, 12); i++)
             flip(frame, 28 + scatter(second, 20 + i, 972));
@@ -288,6 +306,12 @@ static void received(unsigned second, const uint8_t message[MESSAGE_BYTES], uint
     if (second == 187 || second == 188) /* lock lost */
         for (unsigned i = 0; i < FRAME_BYTES; i++)
             frame[i] = (uint8_t)scatter(second, 100 + i, 256);
+}
+
+static void stop(const char *why)
+{
+    fprintf(stderr, "make_samples: %s\n", why);
+    exit(1);
 }
 
 static FILE *create(const char *folder, const char *name)
@@ -305,21 +329,43 @@ static FILE *create(const char *folder, const char *name)
 
 static void finish(FILE *out)
 {
-    if (fclose(out) != 0) {
-        fprintf(stderr, "make_samples: a file could not be written\n");
-        exit(1);
-    }
+    if (fclose(out) != 0)
+        stop("a file could not be written");
 }
 
-static void make_log(const char *folder)
+/* The log, with the frames of `packed` if it is not NULL. */
+static void make_log(const char *folder, FILE *packed)
 {
     FILE *out = create(folder, "night.log");
     uint8_t message[MESSAGE_BYTES], frame[FRAME_BYTES];
     next_orbit = 0;
     for (unsigned second = 0; second <= SECONDS; second++) {
         sent(second, message);
+        if (packed == NULL || is_type_3(message))
+            encoded(second, message, frame);
+        else if (fread(frame, 1, FRAME_BYTES, packed) != FRAME_BYTES)
+            stop("too few frames");
         received(second, message, frame);
         fwrite(frame, 1, second < SECONDS ? FRAME_BYTES : 57, out);
+    }
+    if (packed != NULL && getc(packed) != EOF)
+        stop("too many frames");
+    finish(out);
+}
+
+/* The frames of the log that have a line, undamaged, by the encoder here. */
+static void make_undamaged(const char *path)
+{
+    FILE *out = fopen(path, "wb");
+    uint8_t message[MESSAGE_BYTES], frame[FRAME_BYTES];
+    if (out == NULL)
+        stop("the file of frames cannot be written");
+    next_orbit = 0;
+    for (unsigned second = 0; second <= SECONDS; second++) {
+        sent(second, message);
+        encoded(second, message, frame);
+        if (!is_type_3(message))
+            fwrite(frame, 1, FRAME_BYTES, out);
     }
     finish(out);
 }
@@ -525,14 +571,23 @@ static void make_issues(const char *folder, const char *name, const struct night
 
 int main(int argc, char **argv)
 {
-    if (argc != 2) {
-        fprintf(stderr, "usage: make_samples FOLDER\n");
+    const char *folder = argc > 1 ? argv[argc - 1] : "";
+    FILE *packed = NULL;
+
+    if (argc == 3 && strcmp(argv[1], "-u") == 0) {
+        make_undamaged(folder);
+        return 0;
+    }
+    if (argc != 2 && !(argc == 4 && strcmp(argv[1], "-f") == 0)) {
+        fprintf(stderr, "usage: make_samples FOLDER, make_samples -f FRAMES FOLDER or make_samples -u FILE\n");
         return 2;
     }
-    make_log(argv[1]);
-    make_messages(argv[1]);
-    make_issues(argv[1], "issues.txt", &minutes, SECONDS);
-    make_hours(argv[1]);
-    make_issues(argv[1], "night-issues.txt", &hours, APART * FRAMES);
+    if (argc == 4 && (packed = fopen(argv[2], "rb")) == NULL)
+        stop("the file of frames cannot be read");
+    make_log(folder, packed);
+    make_messages(folder);
+    make_issues(folder, "issues.txt", &minutes, SECONDS);
+    make_hours(folder);
+    make_issues(folder, "night-issues.txt", &hours, APART * FRAMES);
     return 0;
 }

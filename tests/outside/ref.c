@@ -888,7 +888,7 @@ unsigned ref_row_of(const struct ledger *ledger, const uint16_t *issues, size_t 
     return 0;
 }
 
-/* ---- the encoder ---- */
+/* ---- making frames, and checking them ---- */
 
 /* share[i][v]: what message symbol i with value v adds to the 81 parity
  * symbols, a byte each, eight to a word. lift[p][g]: what parity symbol p needs
@@ -974,6 +974,49 @@ void ref_encode(const uint8_t message[MESSAGE_BYTES], unsigned prn, unsigned fla
     memcpy(parity, sum, sizeof parity);
     for (int p = 0; p < GROUPS; p++)
         ref_put_bits(frame, CODED_BIT + 6 * (size_t)(MESSAGE_SYMBOLS + p), 6, parity[p]);
+}
+
+unsigned ref_make_frame(const uint8_t *message, size_t length, unsigned prn, unsigned flags, uint8_t *room,
+                        size_t room_length)
+{
+    if (length != MESSAGE_BYTES || room_length != FRAME_BYTES)
+        return 1;
+    if (ref_get_bits(message, 486, 2) != 0)
+        return 2;
+    if (!among_ten(prn))
+        return 4;
+    if (flags > 63)
+        return 16;
+    ref_encode(message, prn, flags, room);
+    return 0;
+}
+
+/* Whether the first 81 symbols of a frame are those of a message. */
+static bool message_kept(const uint8_t message[MESSAGE_BYTES], const uint8_t symbol[SYMBOLS])
+{
+    for (int i = 0; i < MESSAGE_SYMBOLS; i++)
+        if (symbol[i] != ref_get_bits(message, 6 * (size_t)i, 6))
+            return false;
+    return true;
+}
+
+unsigned ref_check_frame(const uint8_t *message, size_t length, const uint8_t *frame, size_t frame_length,
+                         struct detail *detail)
+{
+    uint8_t symbol[SYMBOLS];
+
+    memset(detail, 0, sizeof *detail);
+    if (length != MESSAGE_BYTES || frame_length != FRAME_BYTES)
+        return 1;
+    if (ref_get_bits(message, 486, 2) != 0)
+        return 2;
+    if (ref_get_bits(frame, 0, 16) != SYNC)
+        return 3;
+    ref_symbols(frame, symbol);
+    detail->failing = ref_failing(symbol, &detail->first);
+    if (detail->failing != 0)
+        return 6;
+    return message_kept(message, symbol) ? 0 : 38;
 }
 
 void ref_spoil(uint8_t frame[FRAME_BYTES], unsigned group, uint8_t value)

@@ -211,6 +211,14 @@ unsigned ref_row_of(const struct ledger *ledger, const uint16_t *issues, size_t 
 void ref_encode(const uint8_t message[MESSAGE_BYTES], unsigned prn, unsigned flags,
                 uint8_t frame[FRAME_BYTES]);
 
+/* Making a frame: refusals 1, 2, 4, 16; the message may be any 486 bits. Checking
+ * one against its message: 1, 2, 3, 6, of which the detail gives the groups, and 38;
+ * the frame's PRN and flags are not looked at. */
+unsigned ref_make_frame(const uint8_t *message, size_t length, unsigned prn, unsigned flags, uint8_t *room,
+                        size_t room_length);
+unsigned ref_check_frame(const uint8_t *message, size_t length, const uint8_t *frame, size_t frame_length,
+                         struct detail *detail);
+
 /* Changes parity symbols of a frame so that the sum of one group (0 to 80)
  * changes by `value` and the sums of all others stay. */
 void ref_spoil(uint8_t frame[FRAME_BYTES], unsigned group, uint8_t value);

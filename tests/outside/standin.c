@@ -184,6 +184,18 @@ uint8_t qvd_write(const uint8_t *contents, size_t k, uint8_t *room, size_t m)
     return (uint8_t)ref_write(&c, room, m);
 }
 
+uint8_t qvd_make_frame(const uint8_t *message, size_t m, uint8_t prn, uint8_t flags, uint8_t *frame, size_t n)
+{
+    return (uint8_t)ref_make_frame(message, m, prn, flags, frame, n);
+}
+
+uint32_t qvd_check_frame(const uint8_t *message, size_t m, const uint8_t *frame, size_t n)
+{
+    struct detail detail;
+    unsigned refusal = ref_check_frame(message, m, frame, n, &detail);
+    return detail_to_number(refusal, &detail);
+}
+
 uint8_t qvd_d1_read(const uint8_t *subframe, size_t m, uint8_t *data, size_t k)
 {
     return ref_read_subframe(data, k, subframe, m);
