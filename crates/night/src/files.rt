@@ -27,6 +27,18 @@ fn may_read(path: [u8; 4096]) -> bool {
     libc::access(&p, libc::R_OK) == 0
 }
 
+// Whether standard input is open; where not, it has been said so. It is asked before any file is opened, which would take its number.
+fn is_input_open() -> bool {
+    if libc::lseek(STDIN_FILENO, 0, libc::SEEK_CUR) >= 0 {
+        return true;
+    }
+    if os::errno() != libc::EBADF {
+        return true;
+    }
+    console::say::say_errno(b"night", b"standard input");
+    false
+}
+
 // Whether the file of argument i may be read; where not, it has been said why.
 fn is_readable(i: usize) -> bool {
     let mut path = io::buffer();
@@ -36,7 +48,7 @@ fn is_readable(i: usize) -> bool {
         return false;
     }
     if console::words::same(&path[..n], b"-") {
-        return true;
+        return is_input_open();
     }
     if !may_read(path) {
         console::say::say_errno(b"night", &path[..n]);
