@@ -1,6 +1,6 @@
-/* Quieuvodan: BeiDou PPP-B2b messages read and written, frames kept in a
- * ledger, and the list of the satellites that qualify; and subframes of the D1
- * and D2 messages. For C and C++.
+/* Quieuvodan: BeiDou PPP-B2b messages read and written, frames made, checked and
+ * kept in a ledger, and the list of the satellites that qualify; and subframes of
+ * the D1 and D2 messages. For C and C++.
  *
  * Link with libquieuvodan.a (x86-64 Linux), which `rt staticlib quieuvodan`
  * writes to target/staticlib/. It uses memcpy and memset of the C library and
@@ -11,15 +11,15 @@
  *
  * Every function is total: for any bytes it ends, and answers QVD_TAKEN or one
  * refusal number, the lowest that applies. That number is what it returns, save
- * that qvd_take_detail and qvd_read_frame_detail put more above it for two of the
- * refusals, and that qvd_next_piece returns a length and refuses nothing. A
- * refusal leaves all that was lent as it was, every byte of it, whichever function
- * refuses and with whatever number.
+ * that qvd_take_detail, qvd_read_frame_detail and qvd_check_frame put more above
+ * it for two of the refusals, and that qvd_next_piece returns a length and refuses
+ * nothing. A refusal leaves all that was lent as it was, every byte of it,
+ * whichever function refuses and with whatever number.
  *
  * QVD_LENGTH comes before all others: a ledger, a form or a room that is not as
  * long as this header says. A length that the rules themselves speak of is
- * refused by their number instead: a frame, a message, the room for a message
- * and the issue list with QVD_BAD_LENGTH, both lengths of the two functions on
+ * refused by their number instead: a frame, a message, the room for either and
+ * the issue list with QVD_BAD_LENGTH, both lengths of the two functions on
  * subframes with QVD_D1_LENGTH.
  *
  * What the caller must keep, since no length can show it:
@@ -31,7 +31,7 @@
  * - nothing else changes the memory during the call.
  *
  * The proofs say, for every input, exactly what is returned and what each lent
- * room then holds: crates/boundary/specs/Boundary.antt. */
+ * room then holds: crates/boundary/specs. */
 #ifndef QUIEUVODAN_H
 #define QUIEUVODAN_H
 
@@ -59,10 +59,10 @@ enum {
 /* What the functions answer. */
 enum {
     QVD_TAKEN = 0,
-    QVD_BAD_LENGTH = 1,     /* frame not 125 bytes, message or its room not 61, issue list not 255 */
+    QVD_BAD_LENGTH = 1,     /* frame or its room not 125 bytes, message or its room not 61, issue list not 255 */
     QVD_LAST_BITS = 2,      /* a message's last two bits are not zero */
     QVD_SYNC = 3,           /* sync is not 0xEB90 */
-    QVD_PRN = 4,            /* frame of another PRN than the ledger's; a ledger whose PRN is not 1 to 5 or 59 to 63 */
+    QVD_PRN = 4,            /* frame of another PRN than the ledger's; to open or make for a PRN that is not 1 to 5 or 59 to 63 */
     QVD_WITHDRAWN = 5,      /* first flag bit is 1 */
     QVD_PARITY = 6,         /* some parity group is not zero */
     QVD_CHECK = 7,          /* check bits wrong */
@@ -74,7 +74,7 @@ enum {
     QVD_RESERVED_SLOT = 13, /* mask bit set in 175 to 255 */
     QVD_MASK = 14,          /* no mask in force, or its IOD SSR or IODP differ */
     QVD_PLACE = 15,         /* type 4: no satellite has the sub-type's first place */
-    QVD_FIELD = 16,         /* writing: a field exceeds its width, or no URA code gives the quarters */
+    QVD_FIELD = 16,         /* writing: a field exceeds its width, or no URA code gives the quarters; flags above 63 */
     QVD_ISSUE = 17,         /* an issue is neither 0 to 1023 nor 65535 */
     QVD_NO_ROW = 18,        /* the slot does not qualify */
     QVD_LAST_PLACE = 19,    /* type 6: no satellite has the last place from Slot_S on */
@@ -82,6 +82,7 @@ enum {
     QVD_D1_PREAMBLE = 32,   /* preamble is not 11100010010 */
     QVD_D1_FRAID = 33,      /* FraID is not 1 to 5 */
     QVD_D1_SOW = 34,        /* SOW is above 604799 */
+    QVD_CHANGED = 38,       /* a frame that is checked has other message symbols than its message */
     QVD_LENGTH = 39         /* a ledger, contents, rows, verdicts or details of another length than here */
 };
 
@@ -202,6 +203,21 @@ uint32_t qvd_read_frame_detail(const uint8_t *frame, size_t m, uint8_t *contents
 /* Writes the message of contents into a room of m bytes, QVD_MESSAGE_BYTES; k is
  * QVD_CONTENTS_BYTES. 1, 8 to 13, 16, 39. */
 uint8_t qvd_write(const uint8_t *contents, size_t k, uint8_t *room, size_t m);
+
+/* Makes the frame of a message of m bytes, QVD_MESSAGE_BYTES, in a room of n bytes,
+ * QVD_FRAME_BYTES: sync, the PRN, the six flags, the message's 81 symbols and their
+ * 81 parity symbols, the only ones with which all parity groups are zero. Any 486
+ * bits can be sent: neither the check bits nor the type are looked at. The first
+ * flag, 32, says that the service is withdrawn. 1, 2, 4, 16. */
+uint8_t qvd_make_frame(const uint8_t *message, size_t m, uint8_t prn, uint8_t flags,
+                       uint8_t *frame, size_t n);
+
+/* Checks a frame of n bytes against the message of m bytes that it is to carry:
+ * its sync, its parity groups, and that its first 81 symbols are the message's.
+ * PRN and flags are not looked at. It says more about refusal 6, as
+ * qvd_take_detail does: then it returns 6 + 256 * first + 65536 * failing. A frame
+ * that qvd_make_frame makes of the message is taken. 1, 2, 3, 6, 38. */
+uint32_t qvd_check_frame(const uint8_t *message, size_t m, const uint8_t *frame, size_t n);
 
 /* Reads the information of a subframe of m bytes, QVD_D1_BYTES, into a room of k
  * bytes, QVD_D1_DATA_BYTES. A code word with at most one flipped bit gives back
