@@ -1,8 +1,9 @@
-// pack [-f] FILE: the messages of lines as show writes them, 61 bytes each, on standard output; with -f the frames of lines as show -f does, 125 each.
+// pack [-f] FILE: the messages of lines as show writes them, on standard output; with -f the frames of lines as show -f writes them.
 //
-// A line of show -f begins with the frame's PRN, prn 60 type 1 .., and its frame has all flags 0; a line such as refused 7 is faulty. Blank lines
-// and lines that begin with # are passed over. - is standard input. All of a file is written or nothing; what cannot be read twice is written as it
-// is read, up to the first faulty line.
+// A message is 61 bytes. A line of show -f begins with the PRN, prn 60 type 1 .., and its frame of 125 bytes has all flags 0; a line refused 7 is
+// faulty. Blank lines and lines that begin with # are passed over. - is standard input.
+//
+// All of a file is written or nothing. What cannot be read twice is written as it is read, up to the first faulty line.
 mod clocks;
 mod cursor;
 mod faults;

@@ -22,11 +22,13 @@ fn write_bytes(p: Pass, bytes: &[u8]) -> u8 {
     WRONG
 }
 
-// The frame of a message, with all flags 0, is written, or refused.
-fn write_frame(name: &[u8], p: Pass, message: &[u8], prn: u8) -> u8 {
+// The frame of a message, with all flags 0, is written, or refused. Contents that were refused (8 and above) have left a message of zeros, for which
+// a frame can be made: so a PRN that is refused (4) comes first, and the lowest number is given.
+fn write_frame(name: &[u8], p: Pass, message: &[u8], prn: u8, refused: u8) -> u8 {
     let mut room = [0u8; 125];
     let v = making::make(message, prn, 0, &mut room);
-    let n = number_of(v);
+    let made = number_of(v);
+    let n = if made != 0 { made } else { refused };
     if n != 0 {
         return say_refused(name, p, true, n);
     }
@@ -38,11 +40,11 @@ fn write_contents(name: &[u8], p: Pass, frames: bool, prn: u8, c: Contents) -> u
     let mut room = [0u8; 61];
     let v = writing::write(&mut room, c);
     let n = number_of(v);
-    if n != 0 {
-        return say_refused(name, p, frames, n);
-    }
     if frames {
-        return write_frame(name, p, &room, prn);
+        return write_frame(name, p, &room, prn, n);
+    }
+    if n != 0 {
+        return say_refused(name, p, false, n);
     }
     write_bytes(p, &room)
 }
