@@ -1,8 +1,8 @@
 /* The worked examples of the rules, the code word of the interface document's
  * appendix, and the table of correction masks of the D1 and D2 messages, held
  * against the independent implementation; the whole list, what refusals give
- * beside their number, and two subframes worked by hand also against the library,
- * through its C boundary. */
+ * beside their number, the frame of the appendix's word, and two subframes worked
+ * by hand also against the library, through its C boundary. */
 #include "quieuvodan.h"
 #include "ref.h"
 #include "words.h"
@@ -375,6 +375,38 @@ static void details_of_library(void)
     CHECK(detail == 6 + 256 * 8 + 65536 * 2);
 }
 
+/* The library makes the appendix's word of its message symbols, though that is no
+ * message, and checks it. */
+static void made_by_library(void)
+{
+    uint8_t message[MESSAGE_BYTES] = { 0 }, frame[FRAME_BYTES], symbol[SYMBOLS];
+
+    for (size_t i = 0; i < MESSAGE_SYMBOLS; i++)
+        ref_put_bits(message, 6 * i, 6, code_word[i]);
+    CHECK(qvd_make_frame(message, MESSAGE_BYTES, 60, 0x2A, frame, FRAME_BYTES) == 0);
+    ref_symbols(frame, symbol);
+    CHECK(memcmp(symbol, code_word, SYMBOLS) == 0);
+    CHECK(ref_get_bits(frame, 0, 28) == (0xEB90u << 12 | 60u << 6 | 0x2A));
+    CHECK(qvd_check_frame(message, MESSAGE_BYTES, frame, FRAME_BYTES) == 0);
+    frame[2] ^= 0xFF; /* PRN and flags are not looked at */
+    CHECK(qvd_check_frame(message, MESSAGE_BYTES, frame, FRAME_BYTES) == 0);
+    message[0] ^= 0x80;
+    CHECK(qvd_check_frame(message, MESSAGE_BYTES, frame, FRAME_BYTES) == 38);
+    frame[3] ^= 1; /* symbol 0: it stands in groups 8 and 26 */
+    CHECK(qvd_check_frame(message, MESSAGE_BYTES, frame, FRAME_BYTES) == 6 + 256 * 8 + 65536 * 2);
+    frame[0] ^= 1;
+    CHECK(qvd_check_frame(message, MESSAGE_BYTES, frame, FRAME_BYTES) == 3);
+    message[MESSAGE_BYTES - 1] |= 1;
+    CHECK(qvd_check_frame(message, MESSAGE_BYTES, frame, FRAME_BYTES) == 2);
+    CHECK(qvd_check_frame(message, MESSAGE_BYTES, frame, FRAME_BYTES - 1) == 1);
+    CHECK(qvd_make_frame(message, MESSAGE_BYTES, 6, 64, frame, FRAME_BYTES) == 2);
+    message[MESSAGE_BYTES - 1] ^= 1;
+    CHECK(qvd_make_frame(message, MESSAGE_BYTES, 6, 64, frame, FRAME_BYTES) == 4);
+    CHECK(qvd_make_frame(message, MESSAGE_BYTES, 5, 64, frame, FRAME_BYTES) == 16);
+    CHECK(qvd_make_frame(message, MESSAGE_BYTES, 5, 63, frame, FRAME_BYTES - 1) == 1);
+    CHECK(qvd_make_frame(message, MESSAGE_BYTES, 5, 63, frame, FRAME_BYTES) == 0);
+}
+
 /* Bytes that were never opened are a ledger for no PRN, and take no frame of it. */
 static void never_opened(void)
 {
@@ -450,6 +482,7 @@ int main(void)
     whole_list();
     whole_list_of_library();
     details_of_library();
+    made_by_library();
     never_opened();
     correction_masks();
     subframes();
