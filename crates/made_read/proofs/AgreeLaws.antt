@@ -1,26 +1,24 @@
 -- What is read at bit a of s and at bit b of t is the same where the bits agree.
 use Prim.Native.Nat.{ℕ, zero, suc, _+_, _*_, _<_, _≤_}
-use mathlib.Core.Path.{_≡_, refl, sym, ap, ap₂, _∙_, subst}
-use mathlib.Core.Logic.{_≢_, dite}
+use mathlib.Core.Path.{_≡_, refl, ap, ap₂, _∙_}
+use mathlib.Core.Logic.{dite}
 use mathlib.Core.Bool.{Bool, true, false}
 use mathlib.Core.List.{List, [], _∷_}
 use native.Mathlib.Decide.{decLt, ℕ-discrete}
-use native.Mathlib.Nat.{add-zero}
 use native.Mathlib.Omega.{arith}
-use lib.Dec.{eqb, ltb}
+use lib.Dec.{eqb}
 use lib.ListN.{getD}
 use borrow.Author.Tests.{eq-eqb, ne-eqb, lt-ltb, le-ltb}
 use Rattle.bits.specs.Pick.{pick}
 use Rattle.bits.specs.Bits.{bitAt, bitsFrom, fieldAt, fieldsAt, total}
-use Rattle.bits.specs.Table.{table}
 use Rattle.bits.proofs.TableLaws.{table-ext}
 use Rattle.check24.specs.Check.{checkBits, checkOf, checkOk}
-use Rattle.records.specs.Orbit.{orbitWidths, orbitOf, blankOrbit}
-use Rattle.records.specs.Clock.{clockWidths, clockOf, blankClock}
-use Rattle.layout.specs.Layout.{partWidths, layoutOf, clockBits, orbitBits, orbitsFrom, endOf}
+use Rattle.records.specs.Orbit.{orbitWidths, orbitOf}
+use Rattle.records.specs.Clock.{clockWidths, clockOf}
+use Rattle.layout.specs.Layout.{partWidths, layoutOf, orbitBits, orbitsFrom, endOf}
 use Rattle.layout.specs.declared.Layout.{Layout}
 use Rattle.layout.proofs.LayoutLaws.{pick-all, from-some}
-use Rattle.contents.specs.Parts.{clockNth, clocksAt, orbitNth, orbitsAt, maskBitAt, maskBitsAt, maskPartAt, clockPartAt, orbitPartAt, noMask, noClocks, noOrbits, maskIn, clocksIn, orbitsIn, layoutAt, contentsAt}
+use Rattle.contents.specs.Parts.{clockNth, clocksAt, orbitNth, orbitsAt, maskBitsAt, noMask, maskIn, clocksIn, orbitsIn, layoutAt, contentsAt}
 use Rattle.contents.specs.declared.parts.MaskPart.{MaskPart}
 use Rattle.contents.specs.declared.parts.ClockPart.{ClockPart}
 use Rattle.contents.specs.declared.parts.OrbitPart.{OrbitPart}

@@ -1,13 +1,13 @@
 -- 02, CR 9: a made frame whose first flag is 0 is read as its message is.
-use Prim.Native.Nat.{ℕ, zero, suc, _+_, _-_, _*_, _/_, _%_, _^_, _<_, _≤_}
-use mathlib.Core.Path.{_≡_, refl, sym, ap, _∙_, subst}
+use Prim.Native.Nat.{ℕ, zero, suc, _+_, _*_, _/_, _%_, _^_, _<_}
+use mathlib.Core.Path.{_≡_, refl, sym, ap, _∙_}
 use mathlib.Core.Logic.{_≢_, dite}
 use mathlib.Core.Bool.{Bool, true, false, not}
-use mathlib.Core.List.{List, [], _∷_}
+use mathlib.Core.List.{List}
 use native.Mathlib.Decide.{decLt, ℕ-discrete}
 use native.Mathlib.Nat.{not-suc-le-zero}
 use native.Mathlib.Omega.{arith}
-use lib.Dec.{eqb, ltb}
+use lib.Dec.{eqb}
 use lib.ListN.{length}
 use borrow.Author.Tests.{eq-eqb, ne-eqb, lt-ltb}
 use Rattle.bits.specs.Pick.{pick}
@@ -16,7 +16,7 @@ use Rattle.bits.proofs.FieldLaws.{bit-lt}
 use Rattle.bits.proofs.WindowLaws.{field-high}
 use Rattle.check24.specs.Check.{checkOk}
 use Rattle.verdict.proofs.NumberLaws.{number-last}
-use Rattle.parity.specs.Parity.{symbolOf, parityOk}
+use Rattle.parity.specs.Parity.{symbolOf}
 use Rattle.layout.specs.Layout.{endOf}
 use Rattle.contents.specs.Parts.{layoutAt, contentsAt, noContents}
 use Rattle.contents.specs.declared.parts.Contents.{Contents}

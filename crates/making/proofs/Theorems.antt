@@ -1,14 +1,14 @@
 -- 02, CR 9: what holds between making and checking.
-use Prim.Native.Nat.{ℕ, suc, _+_, _-_, _*_, _<_, _≤_}
-use mathlib.Core.Path.{_≡_, refl, sym, ap, _∙_, subst}
+use Prim.Native.Nat.{ℕ, suc, _+_, _-_, _*_, _<_}
+use mathlib.Core.Path.{_≡_, sym, ap, _∙_, subst}
 use mathlib.Core.Logic.{dite}
 use mathlib.Core.Bool.{true}
-use mathlib.Core.List.{List, [], _∷_, _++_}
+use mathlib.Core.List.{List, _∷_, _++_}
 use native.Mathlib.Decide.{decLt, ℕ-discrete}
 use native.Mathlib.Omega.{arith}
 use lib.ListN.{getD, length, replicate, length-replicate, List·getD-append}
 use lib.Seq.{ext-getD, getD-append-add}
-use Rattle.bits.specs.Bits.{fieldAt, putsAt}
+use Rattle.bits.specs.Bits.{fieldAt}
 use Rattle.bits.specs.Table.{table}
 use Rattle.bits.proofs.RowLaws.{length-puts}
 use Rattle.bits.proofs.TableLaws.{length-table, getD-table, table-ext}
@@ -16,12 +16,11 @@ use Rattle.parity.specs.Parity.{symbolOf, parityOk}
 use Rattle.one_parity.specs.OneParity.{IsParity, symbolsFrom}
 use Rattle.one_parity.proofs.EachHasOne.{each-has-one}
 use Rattle.one_parity.proofs.FrameLaws.{passes-by}
-use Rattle.making.specs.Make.{messageSymbol, messageSymbols, frameWidths, framed, Made, makeRefusal, Leaves}
-use Rattle.making.specs.Check.{keeps, checkRefusal}
+use Rattle.making.specs.Make.{messageSymbol, messageSymbols, frameWidths, framed, Made, makeRefusal}
 use Rattle.making.specs.Theorems.{NoneRefused, MadeOnce, LeavesOnce, MadeAccepted, AcceptedMade}
 use Rattle.making.proofs.UnitLaws.{framed-sync, framed-unit}
 use Rattle.making.proofs.MakeLaws.{symbols-long, symbols-at, symbols-small, refused-none, prn-small, taken, Taken, lengths-right}
-use Rattle.making.proofs.CheckLaws.{keeps-at, keeps-all, Accepted, accepted, accepts}
+use Rattle.making.proofs.CheckLaws.{keeps-at, keeps-all, accepted, accepts}
 
 -- no message is refused for want of parity symbols
 pub none-refused : NoneRefused
