@@ -1,17 +1,16 @@
 -- A frame's bytes by its units are the bytes that putting its fields in order leaves.
 use Prim.Native.Nat.{ℕ, zero, suc, _+_, _-_, _*_, _/_, _%_, _^_, _<_, _≤_}
-use mathlib.Core.Path.{_≡_, refl, sym, ap, ap₂, _∙_, subst}
+use mathlib.Core.Path.{_≡_, refl, sym, ap, ap₂, _∙_}
 use mathlib.Core.Logic.{dite}
 use mathlib.Core.List.{List, [], _∷_, _++_}
 use native.Mathlib.Nat.{not-suc-le-zero, add-zero}
 use native.Mathlib.Decide.{decLt, ℕ-discrete}
 use native.Mathlib.Omega.{arith}
-use lib.Dec.{lit<, eqb, ltb}
+use lib.Dec.{lit<}
 use lib.ListN.{getD, set, length, replicate, length-replicate, List·getD-append}
 use lib.Seq.{ext-getD, getD-set-same, getD-set-other, set-out, getD-append-add}
-use borrow.Author.Tests.{eq-eqb, ne-eqb, lt-ltb, le-ltb}
+use borrow.Author.Tests.{ne-eqb, lt-ltb, le-ltb}
 use Rattle.bits.specs.Bits.{fieldAt, setBit, putAt, fieldsAt, putsAt, total, Within}
-use Rattle.bits.specs.Pick.{pick}
 use Rattle.bits.specs.Table.{table}
 use Rattle.bits.proofs.ByteWise.{field-split}
 use Rattle.bits.proofs.PutLaws.{byte-lt}

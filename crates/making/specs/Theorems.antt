@@ -7,7 +7,7 @@ use lib.ListN.{length}
 use Rattle.bits.specs.Bits.{fieldAt}
 use Rattle.parity.specs.Parity.{symbolOf}
 use Rattle.frame.specs.Frame.{isPrn}
-use Rattle.making.specs.Make.{Made, makeRefusal}
+use Rattle.making.specs.Make.{Made, makeRefusal, Leaves}
 use Rattle.making.specs.Check.{checkRefusal}
 
 -- 02, CR 9: "No message may be refused for want of parity symbols": any 486 bits, a PRN among the ten and six flags are taken
@@ -20,6 +20,11 @@ NoneRefused =
 -- 02, CR 9: the parity "is also the only one": a message, a PRN and flags have a single frame
 abbrev pub MadeOnce : Type 0
 MadeOnce = (message f g : List ℕ) (prn flags : ℕ) → Made message prn flags f → Made message prn flags g → f ≡ g
+
+-- 01, How tight the wording has to be: what the room holds at the end is a single answer, made or refused
+abbrev pub LeavesOnce : Type 0
+LeavesOnce =
+    (message room a b : List ℕ) (prn flags : ℕ) → Leaves message prn flags room a → Leaves message prn flags room b → a ≡ b
 
 -- 02, CR 9: the checker accepts what the maker makes
 abbrev pub MadeAccepted : Type 0

@@ -1,7 +1,7 @@
 -- The walk finds the parity: at each turn the group of that turn gives the next symbol of the only parity there is.
 use Prim.Native.Nat.{ℕ, zero, suc, _+_, _*_, _<_, _≤_}
 use mathlib.Core.Path.{_≡_, refl, sym, ap, ap₂, _∙_, subst}
-use mathlib.Core.Logic.{_⊎_, inl, inr, ⊎-elim}
+use mathlib.Core.Logic.{⊎-elim}
 use mathlib.Core.List.{List, [], _∷_, _++_}
 use native.Mathlib.Numerals.{add-one}
 use native.Mathlib.Omega.{arith}
@@ -14,10 +14,10 @@ use Rattle.bits.proofs.XorLaws.{xor-assoc, xor-zero, xor-swap, xor-cancel}
 use Rattle.field64.specs.Field.{product}
 use Rattle.field64.proofs.FieldLaws.{product-assoc, product-xor-left, product-xor-right, product-zero-right, product-one-left}
 use Rattle.parity_tables.specs.Tables.{positions, factors}
-use Rattle.one_parity.specs.OneParity.{groupSum, IsParity, OneParity}
+use Rattle.one_parity.specs.OneParity.{groupSum, IsParity}
 use Rattle.one_parity.proofs.EachHasOne.{each-has-one}
 use Rattle.parity_making.specs.Walk.{links, carries, turns, adds, walked, added, startOf, ringOf, walkedParity}
-use Rattle.parity_making.proofs.Ring.{ring, scaled, groupAt, link, Onward, Back, turn-is, Fits, fits-at, meets, closes, carried, undone}
+use Rattle.parity_making.proofs.Ring.{ring, scaled, groupAt, link, Onward, Back, turn-is, fits-at, meets, closes, carried, undone}
 
 -- a group's sum times e
 scaled-sum : (e : ℕ) (w ps fs : List ℕ) → product e (groupSum w ps fs) ≡ groupSum w ps (scaled e fs)

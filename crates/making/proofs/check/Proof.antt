@@ -1,11 +1,10 @@
 use borrow.Author.Needs.{needs}
-use mathlib.Core.Path.{_≡_, sym, ap, _∙_}
+use mathlib.Core.Path.{sym, ap, _∙_}
 use lib.Dec.{eqb}
 use borrow.Author.Tests.{eq-eqb, ne-eqb, not-true, not-false}
 use Rattle.parity.specs.declared.Groups.{Groups}
 use Rattle.parity.proofs.GroupLaws.{parity-none}
 use Rattle.frame.specs.Frame.{frameSays}
-use Rattle.making.specs.Check.{checkRefusal}
 use Rattle.making.proofs.CheckLaws.{refuses-1, refuses-2, refuses-3, refuses-6, refuses-38, refuses-none}
 use Rattle.making.proofs.check.Statement.{statement}
 use Rattle.making.proofs.check.Tie as tie

@@ -5,7 +5,7 @@ use mathlib.Core.Path.{_≡_, refl}
 use mathlib.Core.List.{_++_}
 use lib.ListN.{length, drop}
 use Rattle.bits.specs.Table.{table}
-use Rattle.bits.proofs.TableLaws.{fill-start, fill-step, fill-done}
+use Rattle.bits.proofs.TableLaws.{fill-start, fill-step}
 use Rattle.making.specs.Make.{messageSymbol}
 use Rattle.making.proofs.MakeLaws.{symbols-done}
 use Rattle.making.proofs.symbols_of.Statement.{statement}

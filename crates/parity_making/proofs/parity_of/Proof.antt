@@ -1,6 +1,6 @@
 use borrow.Author.Needs.{needs}
 use Prim.Native.Nat.{ℕ}
-use mathlib.Core.Path.{ap, _∙_, refl}
+use mathlib.Core.Path.{ap, _∙_}
 use mathlib.Core.List.{List}
 use Rattle.parity_making.specs.Walk.{ringOf}
 use Rattle.parity_making.proofs.WalkLaws.{parity-is}

@@ -1,5 +1,4 @@
 use borrow.Author.Needs.{needs}
-use mathlib.Core.Path.{_∙_, sym}
 use Rattle.field64.proofs.PaddedLaws.{padded, pad-at}
 use Rattle.parity_making.proofs.times.Statement.{statement}
 use Rattle.parity_making.proofs.times.Tie as tie

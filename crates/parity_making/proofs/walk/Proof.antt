@@ -1,11 +1,11 @@
 use borrow.Author.Needs.{needs}
 use native.Mathlib.Omega.{arith}
-use Prim.Native.Nat.{_-_, _+_, _≤_}
-use mathlib.Core.Path.{_≡_, refl, sym, ap, _∙_}
+use Prim.Native.Nat.{_-_, _≤_}
+use mathlib.Core.Path.{_≡_, refl}
 use mathlib.Core.List.{_++_}
 use lib.ListN.{length, drop}
 use Rattle.bits.specs.Table.{table}
-use Rattle.bits.proofs.TableLaws.{fill-start, fill-step, fill-done}
+use Rattle.bits.proofs.TableLaws.{fill-start, fill-step}
 use Rattle.parity_making.specs.Walk.{walked}
 use Rattle.parity_making.proofs.WalkLaws.{walk-step, fill-last}
 use Rattle.parity_making.proofs.walk.Statement.{statement}
