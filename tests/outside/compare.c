@@ -1693,44 +1693,48 @@ static unsigned code_bit(unsigned word, unsigned k)
     return word == 0 ? 15 + k : 30 * ((word + 1) / 2) + 2 * k + (word + 1) % 2;
 }
 
+/* One of the two calls on subframes: verdict, room and what stays as it was. Where
+ * the input is taken, `output` then is what the library put into its room. The
+ * library's verdict is answered. */
+static unsigned compare_d1(enum call call, const uint8_t *bytes, size_t n, size_t room, const uint8_t **output)
+{
+    uint8_t *input = input_end - n, *lent_room = lend(room);
+    bool reading = call == D1_READ;
+    unsigned library, reference;
+
+    memcpy(input, bytes, n);
+    now.call = call;
+    now.input = input;
+    now.input_bytes = n;
+    library = (reading ? qvd_d1_read : qvd_d1_write)(input, n, lent_room, room);
+    reference = (reading ? ref_read_subframe : ref_write_subframe)(lent.should + MARGIN, room, bytes, n);
+    same_verdict(call, library, reference);
+    lent_is_right(reading ? "information" : "subframe");
+    same_bytes("the input afterwards", input, bytes, n);
+    *output = reference == 0 ? lent_room : NULL;
+    return library;
+}
+
 /* Whether the library's room then holds `data` is compared too, where it is
  * given and the subframe is taken. The library's verdict is answered. */
 static unsigned compare_d1_reading(const uint8_t *bytes, size_t n, size_t room, const uint8_t *data)
 {
-    uint8_t *input = input_end - n, *output = lend(room);
-    unsigned library, reference;
+    const uint8_t *read;
+    unsigned library = compare_d1(D1_READ, bytes, n, room, &read);
 
-    memcpy(input, bytes, n);
-    now.call = D1_READ;
-    now.input = input;
-    now.input_bytes = n;
-    library = qvd_d1_read(input, n, output, room);
-    reference = ref_read_subframe(lent.should + MARGIN, room, bytes, n);
-    same_verdict(D1_READ, library, reference);
-    lent_is_right("information");
-    same_bytes("the input afterwards", input, bytes, n);
-    if (data != NULL && reference == 0)
-        same_bytes("what was sent", output, data, SUBFRAME_DATA_BYTES);
+    if (data != NULL && read != NULL)
+        same_bytes("what was sent", read, data, SUBFRAME_DATA_BYTES);
     return library;
 }
 
+/* What was written is read again. */
 static void compare_d1_writing(const uint8_t *bytes, size_t n, size_t room)
 {
-    uint8_t *input = input_end - n, *output = lend(room);
-    unsigned library, reference;
+    const uint8_t *output;
+    uint8_t written[SUBFRAME_BYTES];
 
-    memcpy(input, bytes, n);
-    now.call = D1_WRITE;
-    now.input = input;
-    now.input_bytes = n;
-    library = qvd_d1_write(input, n, output, room);
-    reference = ref_write_subframe(lent.should + MARGIN, room, bytes, n);
-    same_verdict(D1_WRITE, library, reference);
-    lent_is_right("subframe");
-    same_bytes("the input afterwards", input, bytes, n);
-    /* What was written is read again. */
-    if (reference == 0) {
-        uint8_t written[SUBFRAME_BYTES];
+    compare_d1(D1_WRITE, bytes, n, room, &output);
+    if (output != NULL) {
         memcpy(written, output, sizeof written);
         compare_d1_reading(written, sizeof written, SUBFRAME_DATA_BYTES, bytes);
     }
