@@ -16,7 +16,7 @@ use Rattle.records.specs.Clock.{blankClock}
 use Rattle.records.specs.Orbit.{blankOrbit}
 use Rattle.layout.specs.Layout.{orbitsFrom}
 use Rattle.contents.specs.Parts.{maskBitAt, clockNth, orbitNth, maskPartAt, clockPartAt, orbitPartAt, layoutAt, maskBitsAt, clocksAt, orbitsAt, noMask, noClocks, noOrbits, maskIn, clocksIn, orbitsIn, contentsAt}
-use Rattle.judge.specs.Judge.{isKind, tooLong, late, highSlot, twice, reservedBit, refusalOf}
+use Rattle.judge.specs.Judge.{isKind, tooLong, late, highSlot, twice, refusalOf}
 use Rattle.contents.specs.declared.parts.MaskPart.{MaskPart}
 use Rattle.contents.specs.declared.parts.ClockPart.{ClockPart}
 use Rattle.contents.specs.declared.parts.OrbitPart.{OrbitPart}
@@ -49,14 +49,13 @@ pub parts-zero : (foreign : Bool) (f : List ℕ) → refusalWith foreign f ≡ 0
 unfolding refusalWith
 parts-zero foreign f e = neither (shellRefusal foreign f) (refusalOf (contentsOf f)) e
 
--- ---- contents that are not refused: none of 8 to 13 applies
+-- ---- contents that are not refused: none of 8 to 12 applies
 pub record Sound (c : Contents) : Type 0 where
   pub kind : isKind (c .kind) ≡ true
   pub short : tooLong (c .kind) (c .clock .count) (c .orbit .count) ≡ false
   pub early : late (c .mask .epoch) (c .clock .epoch) (c .orbit .epoch) ≡ false
   pub low : highSlot (c .kind) (c .clock) (c .orbit) ≡ false
   pub once : twice (c .clock) (c .orbit) ≡ false
-  pub known : reservedBit (c .mask .bits) ≡ false
 
 pub sound : (c : Contents) → refusalOf c ≡ 0 → Sound c
 unfolding refusalOf
@@ -65,18 +64,15 @@ sound c e =
     let b10 = late (c .mask .epoch) (c .clock .epoch) (c .orbit .epoch) in
     let b11 = highSlot (c .kind) (c .clock) (c .orbit) in
     let b12 = twice (c .clock) (c .orbit) in
-    let b13 = reservedBit (c .mask .bits) in
-    let n13 = pick {A = ℕ} b13 13 0 in
-    let n12 = pick {A = ℕ} b12 12 n13 in
+    let n12 = pick {A = ℕ} b12 12 0 in
     let n11 = pick {A = ℕ} b11 11 n12 in
     let n10 = pick {A = ℕ} b10 10 n11 in
     let r8 = skipped 8 (not (isKind (c .kind))) (pick {A = ℕ} b9 9 n10) (omega arith) e in
     let r9 = skipped 9 b9 n10 (omega arith) (r8 .1) in
     let r10 = skipped 10 b10 n11 (omega arith) (r9 .1) in
     let r11 = skipped 11 b11 n12 (omega arith) (r10 .1) in
-    let r12 = skipped 12 b12 n13 (omega arith) (r11 .1) in
-    let r13 = skipped 13 b13 0 (omega arith) (r12 .1) in
-    record { kind = not-false (isKind (c .kind)) (r8 .0); short = r9 .0; early = r10 .0; low = r11 .0; once = r12 .0; known = r13 .0 }
+    let r12 = skipped 12 b12 0 (omega arith) (r11 .1) in
+    record { kind = not-false (isKind (c .kind)) (r8 .0); short = r9 .0; early = r10 .0; low = r11 .0; once = r12 .0 }
 
 -- ---- the parts of a frame's contents are as long as their arrays
 pub mask-long : (f : List ℕ) → length (contentsOf f .mask .bits) ≡ 255

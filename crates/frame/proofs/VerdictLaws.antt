@@ -16,7 +16,7 @@ use Rattle.parity.specs.Parity.{parityOk}
 use Rattle.contents.specs.Parts.{noContents}
 use Rattle.contents.specs.declared.parts.Contents.{Contents}
 use Rattle.layout.proofs.LayoutLaws.{pick-all}
-use Rattle.judge.specs.Judge.{isKind, tooLong, late, highSlot, twice, reservedBit, refusalOf}
+use Rattle.judge.specs.Judge.{isKind, tooLong, late, highSlot, twice, refusalOf}
 use Rattle.verdict.specs.Verdict.{says, numberIn, refusedBy}
 use Rattle.message.specs.Read.{readingSays, answer}
 use Rattle.verdict.specs.declared.Verdict.{Verdict}
@@ -40,32 +40,29 @@ pub frame-quiet : (f : List ℕ) (n : ℕ) → numberIn (frameSays f n) ≡ 0 �
 unfolding frameSays
 frame-quiet f n e = ap (frameSays f) (sym (frame-number f n) ∙ e)
 
--- what holds of 0 and of each of six numbers holds of the first that is given
-among : (P : ℕ → Type 0) (a b c d e f : ℕ) → P 0 → P a → P b → P c → P d → P e → P f → (p q r s t u : Bool) → P (first ((a, p) ∷ (b, q) ∷ (c, r) ∷ (d, s) ∷ (e, t) ∷ (f, u) ∷ []))
-among P a b c d e f z pa pb pc pd pe pf p q r s t u =
-    let g6 = pick-all P u f 0 pf z in
-    let g5 = pick-all P t e _ pe g6 in
+-- what holds of 0 and of each of five numbers holds of the first that is given
+among : (P : ℕ → Type 0) (a b c d e : ℕ) → P 0 → P a → P b → P c → P d → P e → (p q r s t : Bool) → P (first ((a, p) ∷ (b, q) ∷ (c, r) ∷ (d, s) ∷ (e, t) ∷ []))
+among P a b c d e z pa pb pc pd pe p q r s t =
+    let g5 = pick-all P t e 0 pe z in
     let g4 = pick-all P s d _ pd g5 in
     let g3 = pick-all P r c _ pc g4 in
     pick-all P p a _ pa (pick-all P q b _ pb g3)
 
--- a number that is none of 0 and 8 to 13 is not given to contents
-contents-none : (n : ℕ) → n ≢ 0 → ((k : ℕ) → 8 ≤ k → k ≤ 13 → k ≢ n) → (c : Contents) → refusalOf c ≢ n
+-- a number that is none of 0 and 8 to 12 is not given to contents
+contents-none : (n : ℕ) → n ≢ 0 → ((k : ℕ) → 8 ≤ k → k ≤ 12 → k ≢ n) → (c : Contents) → refusalOf c ≢ n
 unfolding refusalOf
 contents-none n z far c =
-    among (λ (x : ℕ). x ≢ n) 8 9 10 11 12 13 (λ e. z (sym e))
+    among (λ (x : ℕ). x ≢ n) 8 9 10 11 12 (λ e. z (sym e))
     (far 8 (omega arith) (omega arith))
     (far 9 (omega arith) (omega arith))
     (far 10 (omega arith) (omega arith))
     (far 11 (omega arith) (omega arith))
     (far 12 (omega arith) (omega arith))
-    (far 13 (omega arith) (omega arith))
     (not (isKind (c .kind)))
     (tooLong (c .kind) (c .clock .count) (c .orbit .count))
     (late (c .mask .epoch) (c .clock .epoch) (c .orbit .epoch))
     (highSlot (c .kind) (c .clock) (c .orbit))
     (twice (c .clock) (c .orbit))
-    (reservedBit (c .mask .bits))
 
 -- contents are not refused 6
 pub contents-not-6 : (c : Contents) → refusalOf c ≢ 6
@@ -74,13 +71,13 @@ contents-not-6 = contents-none 6 (omega arith) (λ k l h. omega arith)
 shell-not-19 : (foreign : Bool) (f : List ℕ) → shellRefusal foreign f ≢ 19
 unfolding shellRefusal
 shell-not-19 foreign f =
-    among (λ (x : ℕ). x ≢ 19) 1 3 4 5 6 7 (omega arith) (omega arith) (omega arith) (omega arith) (omega arith) (omega arith) (omega arith)
-    (not (eqb (length f) 125))
+    pick-all (λ (n : ℕ). n ≢ 19) (not (eqb (length f) 125)) 1 _ (omega arith)
+    (among (λ (x : ℕ). x ≢ 19) 3 4 5 6 7 (omega arith) (omega arith) (omega arith) (omega arith) (omega arith) (omega arith)
     (not (eqb (fieldAt f 0 16) 0xEB90))
     foreign
     (eqb (bitAt f 22) 1)
     (not (parityOk f))
-    (not (checkOk f 28 462))
+    (not (checkOk f 28 462)))
 
 -- 19 is no number of a frame by itself
 pub frame-not-19 : (foreign : Bool) (f : List ℕ) → refusalWith foreign f ≢ 19

@@ -35,7 +35,7 @@ shellRefusal foreign f =
     ∷ (7, not (checkOk f 28 462))
     ∷ [])
 
--- 01, Refusal numbers: those of the frame around its message, then 8 to 13
+-- 01, Refusal numbers: those of the frame around its message, then 8 to 12
 unfoldable pub refusalWith : Bool → List ℕ → ℕ
 refusalWith foreign f =
     first ((shellRefusal foreign f, not (eqb (shellRefusal foreign f) 0)) ∷ (refusalOf (contentsOf f), not (eqb (refusalOf (contentsOf f)) 0)) ∷ [])

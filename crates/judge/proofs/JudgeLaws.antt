@@ -22,7 +22,7 @@ use Rattle.contents.specs.declared.parts.MaskPart.{MaskPart}
 use Rattle.contents.specs.declared.parts.ClockPart.{ClockPart}
 use Rattle.contents.specs.declared.parts.OrbitPart.{OrbitPart}
 use Rattle.contents.specs.declared.parts.Contents.{Contents}
-use Rattle.judge.specs.Judge.{isHigh, isNamed, isAgain, clockSlots, orbitSlots, reservedBit, refusalBy, refusalOf, maskRefusalOf, partsRefusalOf}
+use Rattle.judge.specs.Judge.{isHigh, isNamed, isAgain, clockSlots, orbitSlots, refusalBy, refusalOf, maskRefusalOf, partsRefusalOf}
 
 -- where no slot is named, no slot has a property that 0 does not have
 none-named : (p : ℕ → List ℕ → Bool) → ((xs : List ℕ) → p 0 xs ≡ false) → (xs : List ℕ) → anyOf isNamed xs ≡ false → anyOf p xs ≡ false
@@ -59,14 +59,14 @@ or-none : (b : Bool) → (b || ltb 86399 0 || ltb 86399 0) ≡ b
 or-none true = refl
 or-none false = refl
 
--- a type 1 can be refused 10 and 13 alone
-pub mask-judged : (m : MaskPart) → maskRefusalOf m ≡ first ((10, ltb 86399 (m .epoch)) ∷ (13, reservedBit (m .bits)) ∷ [])
+-- a type 1 can be refused 10 alone
+pub mask-judged : (m : MaskPart) → maskRefusalOf m ≡ pick (ltb 86399 (m .epoch)) 10 0
 unfolding maskRefusalOf refusalOf layoutOf noClocks noOrbits clockSlots orbitSlots table anyOf
-mask-judged m = ap (λ (b : Bool). pick b 10 (pick (reservedBit (m .bits)) 13 0)) (or-none (ltb 86399 (m .epoch)))
+mask-judged m = ap (λ (b : Bool). pick b 10 0) (or-none (ltb 86399 (m .epoch)))
 
--- any other type has no reserved bit
-pub parts-judged : (kind : ℕ) (k : ClockPart) (o : OrbitPart) → partsRefusalOf kind k o ≡ refusalBy kind 0 false k o
-unfolding partsRefusalOf refusalOf noMask table anyOf
+-- any other type has the epoch 0 for its mask
+pub parts-judged : (kind : ℕ) (k : ClockPart) (o : OrbitPart) → partsRefusalOf kind k o ≡ refusalBy kind 0 k o
+unfolding partsRefusalOf refusalOf noMask
 parts-judged kind k o = refl
 
 -- ---- contents are judged by the parts that their type has

@@ -1,9 +1,9 @@
--- 01, Refusal numbers 8 to 13: what is wrong with contents. Reading and writing judge by this alone.
+-- 01, Refusal numbers 8 to 12 (13 has retired: 02, CR 12): what is wrong with contents. Reading and writing judge by this alone.
 use Prim.Native.Nat.{ℕ}
 use mathlib.Core.Bool.{Bool, not, _&&_, _||_}
 use mathlib.Core.List.{List, [], _∷_}
 use lib.Dec.{eqb, ltb}
-use lib.ListN.{getD, drop}
+use lib.ListN.{getD}
 use Rattle.bits.specs.Table.{table}
 use Rattle.bits.specs.Some.{anyOf, first}
 use Rattle.records.specs.Orbit.{blankOrbit}
@@ -65,29 +65,20 @@ isAgain x rest = not (eqb x 0) && anyOf (isSame x) rest
 abbrev pub twice : ClockPart → OrbitPart → Bool
 twice k o = anyOf isAgain (clockSlots (k .clocks)) || anyOf isAgain (orbitSlots (o .orbits))
 
--- an element that is a set bit
-abbrev pub isSet : Bool → List Bool → Bool
-isSet b rest = b
-
--- 01, 13: a mask bit set in 175 to 255
-abbrev pub reservedBit : List Bool → Bool
-reservedBit bs = anyOf isSet (drop 174 bs)
-
--- 01: the lowest of 8 to 13 that applies to a type, the epoch of a mask and whether it has a reserved bit, a clock part and an orbit part; 0 if none does
-abbrev pub refusalBy : ℕ → ℕ → Bool → ClockPart → OrbitPart → ℕ
-refusalBy kind epoch reserved k o =
+-- 01: the lowest of 8 to 12 that applies to a type, the epoch of a mask, a clock part and an orbit part; 0 if none does
+abbrev pub refusalBy : ℕ → ℕ → ClockPart → OrbitPart → ℕ
+refusalBy kind epoch k o =
     first
     ((8, not (isKind kind))
     ∷ (9, tooLong kind (k .count) (o .count))
     ∷ (10, late epoch (k .epoch) (o .epoch))
     ∷ (11, highSlot kind k o)
     ∷ (12, twice k o)
-    ∷ (13, reserved)
     ∷ [])
 
 -- 01: of contents
 unfoldable pub refusalOf : Contents → ℕ
-refusalOf c = refusalBy (c .kind) (c .mask .epoch) (reservedBit (c .mask .bits)) (c .clock) (c .orbit)
+refusalOf c = refusalBy (c .kind) (c .mask .epoch) (c .clock) (c .orbit)
 
 -- 01: of a type 1, which has a mask and no other part
 unfoldable pub maskRefusalOf : MaskPart → ℕ

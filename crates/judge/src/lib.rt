@@ -1,9 +1,9 @@
-// What is wrong with contents: 01's refusals 8 to 13. Reading and writing judge by this alone.
+// What is wrong with contents: 01's refusals 8 to 12. Reading and writing judge by this alone.
 ghost use mathlib.Core.Path.{_≡_};
 ghost use Prim.Native.Nat.{_+_, _<_};
 ghost use lib.ListN.{getD, drop, length};
 ghost use Rattle.bits.specs.Some.{anyOf};
-ghost use Rattle.judge.specs.Judge.{isHigh, isSame, isAgain, clockSlots, orbitSlots, isKind, late, badStart, highSlot, twice, reservedBit, tooLong, isNamed, refusalBy, refusalOf, maskRefusalOf, partsRefusalOf};
+ghost use Rattle.judge.specs.Judge.{isHigh, isSame, isAgain, clockSlots, orbitSlots, isKind, late, badStart, highSlot, twice, tooLong, isNamed, refusalBy, refusalOf, maskRefusalOf, partsRefusalOf};
 use contents::parts::ClockPart;
 use contents::parts::Contents;
 use contents::parts::MaskPart;
@@ -95,20 +95,6 @@ fn any_twice(s: &[u16]) -> bool
     false
 }
 
-// Whether the mask has a bit in 175 to 255.
-fn reserved_bit(bits: [bool; 255]) -> bool
-    ensures { λ r. ⌜ r ≡ reservedBit bits ⌝ }
-{
-    let mut i: usize = 174;
-    while i < 255 {
-        if bits[i] {
-            return true;
-        }
-        i += 1;
-    }
-    false
-}
-
 // Whether the type is one that is read and written.
 fn is_kind(k: u8) -> bool
     ensures { λ r. ⌜ r ≡ isKind k ⌝ }
@@ -193,9 +179,9 @@ fn slot_twice(k: ClockPart, o: OrbitPart) -> bool
     clocks_twice(ks) | any_twice(&b)
 }
 
-// The lowest number of 8 to 13 that applies, by the mask's epoch and whether it has a reserved bit, and the other parts; 0 if none does.
-fn refusal_by(kind: u8, epoch: u32, reserved: bool, k: ClockPart, o: OrbitPart) -> u8
-    ensures { λ r. ⌜ r ≡ refusalBy kind epoch reserved k o ⌝ }
+// The lowest number of 8 to 12 that applies, by the mask's epoch and the other parts; 0 if none does.
+fn refusal_by(kind: u8, epoch: u32, k: ClockPart, o: OrbitPart) -> u8
+    ensures { λ r. ⌜ r ≡ refusalBy kind epoch k o ⌝ }
 {
     if !is_kind(kind) {
         return 8;
@@ -212,40 +198,29 @@ fn refusal_by(kind: u8, epoch: u32, reserved: bool, k: ClockPart, o: OrbitPart) 
     if slot_twice(k, o) {
         return 12;
     }
-    if reserved {
-        return 13;
-    }
     0
 }
 
-// The lowest number of 8 to 13 that applies to contents; 0 if none does.
+// The lowest number of 8 to 12 that applies to contents; 0 if none does.
 pub fn refusal_of(c: Contents) -> u8
     ensures { λ r. ⌜ r ≡ refusalOf c ⌝ }
 {
     let m = c.mask;
-    let bits = m.bits;
     let k = c.clock;
     let o = c.orbit;
-    refusal_by(c.kind, m.epoch, reserved_bit(bits), k, o)
+    refusal_by(c.kind, m.epoch, k, o)
 }
 
 // The same of a type 1 by its mask alone.
 pub fn refusal_of_mask(m: MaskPart) -> u8
     ensures { λ r. ⌜ r ≡ maskRefusalOf m ⌝ }
 {
-    if m.epoch > 86399 {
-        return 10;
-    }
-    let bits = m.bits;
-    if reserved_bit(bits) {
-        return 13;
-    }
-    0
+    if m.epoch > 86399 { 10 } else { 0 }
 }
 
 // The same of another type by its clock part and its orbit part.
 pub fn refusal_of_parts(kind: u8, k: ClockPart, o: OrbitPart) -> u8
     ensures { λ r. ⌜ r ≡ partsRefusalOf kind k o ⌝ }
 {
-    refusal_by(kind, 0, false, k, o)
+    refusal_by(kind, 0, k, o)
 }

@@ -19,7 +19,7 @@ use Rattle.list_right.specs.Examples.{one, two, four, other, sent, issue
 use Rattle.list_right.proofs.FramesLaws.{frames-good}
 use Rattle.list_right.proofs.AcceptedLaws.{maskOver, orbitOver, clockOver, Sound, listOver, list-over, taken-over, refusal-good}
 
--- 8 to 13 do not apply to any of the contents
+-- 8 to 12 do not apply to any of the contents
 judged : (refusalOf other ≡ 0) × (refusalOf four ≡ 0) × (refusalOf two ≡ 0) × (refusalOf one ≡ 0)
 unfolding refusalOf clockSlots orbitSlots anyOf layoutOf noMask noClocks noOrbits table
 judged = (refl, refl, refl, refl)

@@ -31,7 +31,7 @@ answer n c = record { said = refusedBy n; contents = pick (eqb n 0) c noContents
 abbrev pub readAt : List ℕ → ℕ → Answer
 readAt s at = answer (refusalOf (contentsAt s at)) (contentsAt s at)
 
--- 01: a message of 61 bytes: 1, 2, 7, then 8 to 13
+-- 01: a message of 61 bytes: 1, 2, 7, then 8 to 12
 unfoldable pub readMessage : List ℕ → Answer
 readMessage s =
     answer

@@ -304,7 +304,7 @@ pub extern "C" fn qvd_read_frame_detail(frame: &[u8], contents: &mut [u8]) -> u3
     detail(put_reading(contents, read_frame(frame)))
 }
 
-// The message of contents. 1, 8 to 13, 16, 39.
+// The message of contents. 1, 8 to 12, 16, 39.
 #[no_mangle]
 pub extern "C" fn qvd_write(contents: &[u8], room: &mut [u8]) -> u8
     ensures answer { λ r. ⌜ r ≡ writeAnswer (now (contents .entry)) (now (room .entry)) ⌝ }

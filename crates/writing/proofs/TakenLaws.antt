@@ -94,7 +94,7 @@ pub few : (c : Contents) → endOf (layoutFor c) ≤ 462 → (layoutFor c .orbit
 few c e =
     (few-orbits (layoutFor c) (six c) e, few-clocks (layoutFor c) (broad (c .kind) (c .clock .count) (c .orbit .count)) (six c) e)
 
--- 01: 8 to 13 do not apply, nor 16
+-- 01: 8 to 12 do not apply, nor 16
 pub content-taken : (c : Contents) → contentRefusal c ≡ 0 → (refusalOf c ≡ 0) × (fitsAll c ≡ true)
 unfolding contentRefusal
 content-taken c e =

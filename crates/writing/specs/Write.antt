@@ -72,7 +72,7 @@ checkPut s = putAt s 462 24 (checkOf s 0 462)
 unfoldable pub messageOf : Contents → List ℕ
 messageOf c = checkPut (partsPut (replicate 61 0) c (layoutFor c))
 
--- 01, Refusal numbers: 8 to 13 as in reading, then 16, of canonical contents; 0 if none applies
+-- 01, Refusal numbers: 8 to 12 as in reading, then 16, of canonical contents; 0 if none applies
 unfoldable pub contentRefusal : Contents → ℕ
 contentRefusal c = first ((refusalOf c, not (eqb (refusalOf c) 0)) ∷ (16, not (fitsAll c)) ∷ [])
 

@@ -197,7 +197,7 @@ fn all_fields_fit(c: Contents) -> bool
     a & b & d & e & f
 }
 
-// The lowest number of 8 to 13 and 16 that applies to canonical contents; 0 if none does.
+// The lowest number of 8 to 12 and 16 that applies to canonical contents; 0 if none does.
 fn content_refusal(c: Contents) -> u8
     ensures { λ r. ⌜ r ≡ contentRefusal c ⌝ }
 {
@@ -348,7 +348,7 @@ fn put_message(room: &mut [u8], c: Contents)
     put_check(room);
 }
 
-// A message is written into a lent room: refusals 1, 8 to 13, 16, lowest first. On a refusal the room is as it was.
+// A message is written into a lent room: refusals 1, 8 to 12, 16, lowest first. On a refusal the room is as it was.
 pub fn write(room: &mut [u8], c: Contents) -> Verdict
     ensures verdict { λ r. ⌜ says r ≡ refusedBy (writeRefusal (now (room .entry)) c) ⌝ }
     ensures bytes { λ r. ⌜ now (room .exit) ≡ written (now (room .entry)) c ⌝ }

@@ -14,7 +14,7 @@ use Rattle.bits.specs.Some.{anyOf}
 use Rattle.records.specs.Orbit.{blankOrbit, orbitWidths}
 use Rattle.records.specs.Clock.{blankClock, clockWidths}
 use Rattle.layout.specs.Layout.{partWidths, endOf}
-use Rattle.judge.specs.Judge.{clockSlots, orbitSlots, isKind, tooLong, late, isHigh, badStart, highSlot, isAgain, twice, isSet, reservedBit, refusalOf}
+use Rattle.judge.specs.Judge.{clockSlots, orbitSlots, isKind, tooLong, late, isHigh, badStart, highSlot, isAgain, twice, refusalOf}
 use Rattle.contents.specs.declared.parts.Contents.{Contents}
 use Rattle.canonical.specs.Canon.{layoutFor, canon}
 use Rattle.writing.specs.Fits.{clockRow, orbitRow, fitsAll}
@@ -27,7 +27,7 @@ use Rattle.writing.proofs.TakenLaws.{first-not, content-taken}
 use Rattle.written_back.proofs.ValueLimits.{slot-low, clock-within, within-clock, orbit-within, within-orbit, head-within, within-head}
 use Rattle.writing.proofs.WriteLaws.{refuses-room, refuses-content}
 
--- where 8 to 13 do not apply, nor 16, none does
+-- where 8 to 12 do not apply, nor 16, none does
 pub content-ok : (c : Contents) → refusalOf c ≡ 0 → fitsAll c ≡ true → contentRefusal c ≡ 0
 unfolding contentRefusal
 content-ok c z f = rw (eq-eqb _ _ z, f)
@@ -87,12 +87,7 @@ module _ (c : Contents) (h : Limits c) where
       (λ n. rw (eq-eqb (c .kind) 6 e, le-ltb 0 (c .clock .count) (omega arith))))
       (λ n. rw (ne-eqb (c .kind) 6 n))
 
-  reserved-clear : anyOf isSet (drop 174 (c .mask .bits)) ≡ false
-  reserved-clear =
-      none-found isSet false (drop 174 (c .mask .bits))
-      (λ i l. getD-drop 174 (c .mask .bits) i false ∙ h .reserved (174 + i) (omega arith))
-
-  -- 01, 8 to 13: none applies
+  -- 01, 8 to 12: none applies
   limits-judged : refusalOf c ≡ 0
   unfolding refusalOf
   limits-judged =
@@ -107,7 +102,6 @@ module _ (c : Contents) (h : Limits c) where
         start-good,
         clocks-single,
         orbits-single,
-        reserved-clear,
       )
 
 -- every content within its limits is taken, into any room of 61 bytes
@@ -120,16 +114,6 @@ start-right kind count start e k l =
     let g : (eqb start 0 || ltb 255 start) ≡ false = rw (eq-eqb kind 6 k, lt-ltb 0 count l) at e in
     let n = eqb-no start 0 (or-left (eqb start 0) (ltb 255 start) g) in
     (omega (arith, n), ltb-false 255 start (or-right (eqb start 0) (ltb 255 start) g))
-
-reserved-right : (c : Contents) → reservedBit (c .mask .bits) ≡ false → (i : ℕ) → 174 ≤ i → getD (c .mask .bits) i false ≡ false
-reserved-right c e i l =
-    let bs = c .mask .bits in
-    dite (decLt i (length bs))
-    (λ h.
-    let q : 174 + (i - 174) ≡ i = omega arith in
-    sym (getD-drop 174 bs (i - 174) false ∙ ap (λ (j : ℕ). getD bs j false) q)
-    ∙ found-none isSet false (drop 174 bs) e (i - 174) (omega (arith, length-drop 174 bs)))
-    (λ n. List·getD-eq-default bs false (omega arith))
 
 found-clocks : (c : Contents) → anyOf isHigh (clockSlots (c .clock .clocks)) ≡ false → (i : ℕ) → i < 23 → clockSlot c i ≤ 255
 unfolding clockSlots
@@ -147,8 +131,8 @@ once-orbits : (c : Contents) → anyOf isAgain (orbitSlots (c .orbit .orbits)) �
 unfolding orbitSlots
 once-orbits c e = found-single (orbitSlot c) 6 e
 
--- 01, 8 to 13: what each says where none applies
-pub judged-all : (c : Contents) → refusalOf c ≡ 0 → (isKind (c .kind) ≡ true) × (endOf (layoutFor c) ≤ 462) × (late (c .mask .epoch) (c .clock .epoch) (c .orbit .epoch) ≡ false) × (highSlot (c .kind) (c .clock) (c .orbit) ≡ false) × (twice (c .clock) (c .orbit) ≡ false) × (reservedBit (c .mask .bits) ≡ false)
+-- 01, 8 to 12: what each says where none applies
+pub judged-all : (c : Contents) → refusalOf c ≡ 0 → (isKind (c .kind) ≡ true) × (endOf (layoutFor c) ≤ 462) × (late (c .mask .epoch) (c .clock .epoch) (c .orbit .epoch) ≡ false) × (highSlot (c .kind) (c .clock) (c .orbit) ≡ false) × (twice (c .clock) (c .orbit) ≡ false)
 unfolding refusalOf
 judged-all c e =
     let n8 = first-not 8 _ (not (isKind (c .kind))) (λ z. omega arith) e in
@@ -156,8 +140,7 @@ judged-all c e =
     let n10 = first-not 10 _ (late (c .mask .epoch) (c .clock .epoch) (c .orbit .epoch)) (λ z. omega arith) (n9 .1) in
     let n11 = first-not 11 _ (highSlot (c .kind) (c .clock) (c .orbit)) (λ z. omega arith) (n10 .1) in
     let n12 = first-not 12 _ (twice (c .clock) (c .orbit)) (λ z. omega arith) (n11 .1) in
-    let n13 = first-not 13 _ (reservedBit (c .mask .bits)) (λ z. omega arith) (n12 .1) in
-    (not-false (isKind (c .kind)) (n8 .0), ltb-false 462 (endOf (layoutFor c)) (n9 .0), n10 .0, n11 .0, n12 .0, n13 .0)
+    (not-false (isKind (c .kind)) (n8 .0), ltb-false 462 (endOf (layoutFor c)) (n9 .0), n10 .0, n11 .0, n12 .0)
 
 content-limits : (c : Contents) → length (c .mask .bits) ≡ 255 → contentRefusal c ≡ 0 → Limits c
 content-limits c long e =
@@ -186,7 +169,6 @@ content-limits c long e =
       clocks-once = once-clocks c (or-left ak ao (j .4));
       orbits-once = once-orbits c (or-right ak ao (j .4));
       bits = long;
-      reserved = reserved-right c (j .5);
     }
 
 -- what is taken is within its limits

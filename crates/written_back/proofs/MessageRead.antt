@@ -29,7 +29,7 @@ use Rattle.writing.proofs.TakenLaws.{first-not, content-taken}
 use Rattle.written_back.proofs.CheckBack.{check-beside, check-right}
 use Rattle.written_back.proofs.MessageBack.{contents-back, parts-beside}
 
--- t is a message that says c: 61 bytes, the last two bits zero, the check right, the contents within 8 to 13
+-- t is a message that says c: 61 bytes, the last two bits zero, the check right, the contents within 8 to 12
 pub record Message (t : List ℕ) (c : Contents) : Type 0 where
   pub long : length t ≡ 61
   pub last : fieldAt t 486 2 ≡ 0

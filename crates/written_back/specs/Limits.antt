@@ -1,4 +1,4 @@
--- 01, Message fields and Refusal numbers 8 to 13 and 16: the limits of contents in canonical form, field by field.
+-- 01, Message fields and Refusal numbers 8 to 12 and 16: the limits of contents in canonical form, field by field.
 use mathlib.Core.Path.{_≡_}
 use mathlib.Core.Logic.{_≢_}
 use mathlib.Core.Bool.{Bool, true, false}
@@ -76,5 +76,3 @@ pub record Limits (c : Contents) : Type 0 where
   pub orbits-once : Once 6 (λ (i : ℕ). getD (c .orbit .orbits) i blankOrbit .slot)
   -- 01, Message fields: mask [255], a bit for each slot
   pub bits : length (c .mask .bits) ≡ 255
-  -- 01, 13: no bit in 175 to 255, counted from 1
-  pub reserved : (i : ℕ) → 174 ≤ i → getD (c .mask .bits) i false ≡ false

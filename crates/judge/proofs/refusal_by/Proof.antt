@@ -79,23 +79,6 @@ returns-6 c =
       sym (c3 .before .is-late .ensures) ∙ c3 .if3 .left,
       sym (c4 .before .high-slot .ensures) ∙ c4 .if4 .left,
       sym (c5 .before .slot-twice .ensures) ∙ c5 .if5 .left,
-      c .if6 .taken,
-    )
-
-returns-7 : tie.Need-returns-7
-returns-7 c =
-    let c5 = c .before in
-    let c4 = c5 .before .before in
-    let c3 = c4 .before .before in
-    let c2 = c3 .before .before in
-    let c1 = c2 .before .before in
-    rw (
-      sym (c1 .before .is-kind .ensures) ∙ not-false _ (c1 .if1 .left),
-      sym (c2 .before .too-long .ensures) ∙ c2 .if2 .left,
-      sym (c3 .before .is-late .ensures) ∙ c3 .if3 .left,
-      sym (c4 .before .high-slot .ensures) ∙ c4 .if4 .left,
-      sym (c5 .before .slot-twice .ensures) ∙ c5 .if5 .left,
-      c .if6 .left,
     )
 
 pub refusal-by-spec : {M : Type 1} → statement M
@@ -112,5 +95,4 @@ refusal-by-spec =
     returns-4
     slot-twice-requires
     returns-5
-    returns-6
-    returns-7)
+    returns-6)

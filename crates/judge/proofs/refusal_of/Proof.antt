@@ -3,15 +3,12 @@ use Rattle.judge.specs.Judge.{refusalOf}
 use Rattle.judge.proofs.refusal_of.Statement.{statement}
 use Rattle.judge.proofs.refusal_of.Tie as tie
 
-reserved-bit-requires : tie.Need-reserved-bit-requires
-reserved-bit-requires c κs = search needs
-
 refusal-by-requires : tie.Need-refusal-by-requires
 refusal-by-requires c κs = search needs
 
 returns : tie.Need-returns
 unfolding refusalOf
-returns c = rw (← (c .before .reserved-bit .ensures)) (c .refusal-by .ensures)
+returns c = c .refusal-by .ensures
 
 pub refusal-of-spec : {M : Type 1} → statement M
-refusal-of-spec = tie.close (tie.spec reserved-bit-requires refusal-by-requires returns)
+refusal-of-spec = tie.close (tie.spec refusal-by-requires returns)
