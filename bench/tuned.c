@@ -68,7 +68,8 @@ struct ledger {
     uint32_t head;         /* of its frames: the first four bytes, of them the bits in HEAD_BITS */
     uint32_t epoch;        /* of the mask in force */
     uint64_t tag;          /* of a clock that comes by place now */
-    uint64_t mask[3];      /* in force: a frame's bytes 7 to 30, slot k is bit k + 4, high bit first */
+    uint64_t mask[4];      /* in force: a frame's bytes 7 to 38, slot k is bit k + 4, high bit first */
+    uint8_t tail;          /* and the four bits of slots 252 to 255 */
     uint8_t key;           /* 16 * IOD SSR + IODP of the mask in force, or NO_MASK */
     uint8_t places;        /* number of its set bits */
     uint8_t slot_at[280];  /* slot_at[n] has place n; at least 23 zeros follow the last */
@@ -384,8 +385,8 @@ static __attribute__((noinline)) void list_places(struct ledger *l, const uint8_
         *p = (uint8_t)slot;
         p += frame[7] >> (3 - slot) & 1;
     }
-    for (unsigned i = 0; i < 22; i++) {
-        unsigned byte = frame[8 + i];
+    for (unsigned i = 0; i < 32; i++) {
+        unsigned byte = i < 31 ? frame[8 + i] : frame[39] & 0xF0; /* the mask ends within byte 39 */
         store64(p, spread[byte] + UINT64_C(0x0808080808080808) * i);
         p += ones[byte];
     }
@@ -403,20 +404,22 @@ INLINE unsigned take_mask(struct ledger *l, const uint8_t *frame, uint64_t x)
 {
     uint32_t epoch = x >> 37 & 0x1FFFF;
     uint8_t key = x >> 27 & 63;
-    uint64_t a = load64(frame + 7), b = load64(frame + 15), c = load64(frame + 23), other;
+    uint64_t a = load64(frame + 7), b = load64(frame + 15), c = load64(frame + 23), d = load64(frame + 31), other;
+    uint8_t tail = frame[39] >> 4;
 
     if (epoch > LAST_EPOCH)
         return 10;
-    if ((c & 0xFF1F000000000000) != 0 || load64(frame + 31) != 0 || frame[39] >> 4 != 0)
-        return 13;
     l->epoch = epoch;
-    other = ((a ^ l->mask[0]) & ~(uint64_t)0xF8) | (b ^ l->mask[1]) | (c ^ l->mask[2]); /* without the IODs */
+    other = ((a ^ l->mask[0]) & ~(uint64_t)0xF8) | (b ^ l->mask[1]) | (c ^ l->mask[2]) | (d ^ l->mask[3]) |
+            (tail ^ l->tail); /* without the IODs */
     if (other != 0 || key != l->key) {
         if (other != 0)
             list_places(l, frame);
         l->mask[0] = a;
         l->mask[1] = b;
         l->mask[2] = c;
+        l->mask[3] = d;
+        l->tail = tail;
         l->key = key;
         l->tag = ((l->tag >> CLOCK_NUMBER) + 1) << CLOCK_NUMBER | CLOCK_HELD | (uint64_t)(key >> 4) << CLOCK_SSR;
     }

@@ -46,12 +46,12 @@ extern "C" {
 enum {
     QVD_FRAME_BYTES = 125,
     QVD_MESSAGE_BYTES = 61,
-    QVD_LEDGER_BYTES = 9440,
+    QVD_LEDGER_BYTES = 9216,
     QVD_ISSUES = 255,
     QVD_ROW_BYTES = 27,
     QVD_MOST_ROWS = 174,
     QVD_ROWS_BYTES = 4698, /* QVD_MOST_ROWS rows */
-    QVD_CONTENTS_BYTES = 488,
+    QVD_CONTENTS_BYTES = 265,
     QVD_D1_BYTES = 38,     /* a subframe */
     QVD_D1_DATA_BYTES = 28 /* its information bits */
 };
@@ -71,7 +71,7 @@ enum {
     QVD_EPOCH = 10,         /* an epoch above 86399 */
     QVD_SLOT = 11,          /* a slot above 255; Slot_S 0 or above 255; a row asked for slot 0 or above 255 */
     QVD_TWICE = 12,         /* one slot twice among orbit records, or among type 7 clock records */
-    QVD_RESERVED_SLOT = 13, /* mask bit set in 175 to 255 */
+                            /* 13 is given no more: a mask may have bits set in 175 to 255 */
     QVD_MASK = 14,          /* no mask in force, or its IOD SSR or IODP differ */
     QVD_PLACE = 15,         /* type 4: no satellite has the sub-type's first place */
     QVD_FIELD = 16,         /* writing: a field exceeds its width, or no URA code gives the quarters; flags above 63 */
@@ -100,30 +100,31 @@ enum { QVD_URA_UNKNOWN = 0, QVD_URA_QUARTERS = 1, QVD_URA_ABOVE = 2 };
  *      3  2  IODN                18  4  clock, s              the other kinds
  *      5  1  IOD Corr
  *
- * Contents, 488 bytes. Values are raw, as the message has them. A part that the
+ * Contents, 265 bytes. Values are raw, as the message has them. A part that the
  * type lacks, a blank record and a record past the count are all zero when they
  * are read, and are not looked at when they are written.
  *      0  1  type: 1, 2, 4, 6, 7 or 63
  *      1  4  mask part: epoch
  *      5  1  IOD SSR
  *      6  1  IODP
- *      7  255 x 1  slots 1 to 255: 1 is set, any other byte is not
- *    262  4  clock part: epoch
- *    266  1  IOD SSR
- *    267  1  IODP (types 4 and 6)
- *    268  2  sub-type (type 4) or Slot_S (type 6)
- *    270  1  number of clock records: NumC in types 6 and 7; a type 4 is read as 23
+ *      7  32  the mask: slot 1 is the high bit of the first byte, slot 255 the
+ *            second lowest of the last; the last bit is 0, and set is refused 16
+ *     39  4  clock part: epoch
+ *     43  1  IOD SSR
+ *     44  1  IODP (types 4 and 6)
+ *     45  2  sub-type (type 4) or Slot_S (type 6)
+ *     47  1  number of clock records: NumC in types 6 and 7; a type 4 is read as 23
  *            and written as 23 whatever stands here
- *    271  23 x 5  slot (2; type 7 alone), IOD Corr (1), C0 (2, s)
- *    386  4  orbit part: epoch
- *    390  1  IOD SSR
- *    391  1  number of orbit records: NumO in types 6 and 7; a type 2 is read as 6
+ *     48  23 x 5  slot (2; type 7 alone), IOD Corr (1), C0 (2, s)
+ *    163  4  orbit part: epoch
+ *    167  1  IOD SSR
+ *    168  1  number of orbit records: NumO in types 6 and 7; a type 2 is read as 6
  *            and written as 6 whatever stands here
- *    392  6 x 16  slot (2), IODN (2), IOD Corr (1), radial, along, cross (2 each, s),
+ *    169  6 x 16  slot (2), IODN (2), IOD Corr (1), radial, along, cross (2 each, s),
  *                 URA: its kind (1) and quarters (4); any other kind than 1 and 2
  *                 is unknown, and quarters are looked at in kind 1 alone
  *
- * A ledger is 9440 bytes that only these functions need to understand. Any bytes
+ * A ledger is 9216 bytes that only these functions need to understand. Any bytes
  * are some ledger; qvd_open makes a fresh one. Zero bytes, never opened, are a
  * ledger for no PRN: they refuse every frame. A ledger may be copied and stored.
  *
@@ -138,15 +139,15 @@ enum { QVD_URA_UNKNOWN = 0, QVD_URA_QUARTERS = 1, QVD_URA_ABOVE = 2 };
 /* Makes the n bytes a fresh ledger for a PRN, whatever they held. 4, 39. */
 uint8_t qvd_open(uint8_t *ledger, size_t n, uint8_t prn);
 
-/* Takes one frame, whole or not at all. 1, 3 to 15, 19, 39. */
+/* Takes one frame, whole or not at all. 1, 3 to 12, 14, 15, 19, 39. */
 uint8_t qvd_take(uint8_t *ledger, size_t n, const uint8_t *frame, size_t m);
 
 /* Takes one frame as qvd_take does, and says more about two refusals. What
- * qvd_take would return is the answer modulo 256. 1, 3 to 15, 19, 39.
+ * qvd_take would return is the answer modulo 256. 1, 3 to 12, 14, 15, 19, 39.
  *      6 + 256 * first + 65536 * failing   first: the first parity group that is
  *          not zero, 1 to 81, down each column of the interface document's print,
  *          columns left to right; failing: how many of the 81 are not zero
- *     19 + 256 * set   set: the number of set bits of the mask in force
+ *     19 + 256 * set   set: the number of set bits of the mask in force, up to 255
  * Any other answer is the number alone. */
 uint32_t qvd_take_detail(uint8_t *ledger, size_t n, const uint8_t *frame, size_t m);
 
@@ -189,19 +190,19 @@ uint8_t qvd_rows(const uint8_t *ledger, size_t n, const uint16_t *issues, size_t
 uint8_t qvd_row(const uint8_t *ledger, size_t n, const uint16_t *issues, size_t k, uint16_t slot,
                 uint8_t *row, size_t r);
 
-/* Reads a message of m bytes; k is QVD_CONTENTS_BYTES. 1, 2, 7 to 13, 39. */
+/* Reads a message of m bytes; k is QVD_CONTENTS_BYTES. 1, 2, 7 to 12, 39. */
 uint8_t qvd_read(const uint8_t *message, size_t m, uint8_t *contents, size_t k);
 
 /* Reads a frame of m bytes without a ledger, for any PRN; k is
- * QVD_CONTENTS_BYTES. 1, 3, 5 to 13, 39. */
+ * QVD_CONTENTS_BYTES. 1, 3, 5 to 12, 39. */
 uint8_t qvd_read_frame(const uint8_t *frame, size_t m, uint8_t *contents, size_t k);
 
 /* As qvd_read_frame, and says more about refusal 6, as qvd_take_detail does: then
- * it returns 6 + 256 * first + 65536 * failing. 1, 3, 5 to 13, 39. */
+ * it returns 6 + 256 * first + 65536 * failing. 1, 3, 5 to 12, 39. */
 uint32_t qvd_read_frame_detail(const uint8_t *frame, size_t m, uint8_t *contents, size_t k);
 
 /* Writes the message of contents into a room of m bytes, QVD_MESSAGE_BYTES; k is
- * QVD_CONTENTS_BYTES. 1, 8 to 13, 16, 39. */
+ * QVD_CONTENTS_BYTES. 1, 8 to 12, 16, 39. */
 uint8_t qvd_write(const uint8_t *contents, size_t k, uint8_t *room, size_t m);
 
 /* Makes the frame of a message of m bytes, QVD_MESSAGE_BYTES, in a room of n bytes,

@@ -520,19 +520,21 @@ static void make_message(struct leaning *l, unsigned kind, unsigned faulty_perce
 
 static unsigned some_mask_size(void)
 {
-    static const uint8_t sizes[] = { 0, 1, 2, 22, 23, 24, 45, 46, 47, 48, 68, 69, 70, 92, 115, 138, 161, 162, 173, 174 };
-    return chance(60) ? sizes[below(sizeof sizes)] : chance(70) ? between(4, 60) : below(175);
+    static const uint8_t sizes[] = { 0,  1,   2,   22,  23,  24,  45,  46,  47,  48,  68,  69,
+                                     70, 92,  115, 138, 161, 162, 173, 174, 175, 230, 254, 255 };
+    return chance(60) ? sizes[below(sizeof sizes)] : chance(70) ? between(4, 60) : below(256);
 }
 
 static void some_mask(struct mask *mask)
 {
     unsigned left = some_mask_size();
+    unsigned slots = left > ASSIGNED_SLOTS || chance(30) ? SLOTS : ASSIGNED_SLOTS; /* some masks have reserved bits */
     memset(mask, 0, sizeof *mask);
     mask->iod_ssr = (uint8_t)below(4);
     mask->iodp = (uint8_t)below(16);
     /* Each slot is taken with the chance that the number still wanted needs. */
-    for (unsigned slot = 1; slot <= ASSIGNED_SLOTS; slot++)
-        if (below(ASSIGNED_SLOTS + 1 - slot) < left) {
+    for (unsigned slot = 1; slot <= slots; slot++)
+        if (below(slots + 1 - slot) < left) {
             mask->set[slot] = true;
             left--;
         }
@@ -561,11 +563,11 @@ static void some_leaning(struct leaning *l)
         l->pool[i] = l->pool[0];
     l->pool[1].iodp = (uint8_t)((l->pool[0].iodp + 1) % 16);
     l->pool[2].iod_ssr = (uint8_t)((l->pool[0].iod_ssr + 1) % 4);
-    slot = chance(20) ? 1 : chance(20) ? ASSIGNED_SLOTS : between(1, ASSIGNED_SLOTS);
+    slot = chance(20) ? 1 : chance(20) ? ASSIGNED_SLOTS : chance(20) ? SLOTS : between(1, SLOTS);
     l->pool[3].set[slot] = !l->pool[3].set[slot];
     some_mask(&l->pool[4]);
     l->pool[5].iodp = (uint8_t)((l->pool[0].iodp + 15) % 16);
-    l->pool[5].set[ASSIGNED_SLOTS] = !l->pool[5].set[ASSIGNED_SLOTS];
+    l->pool[5].set[SLOTS] = !l->pool[5].set[SLOTS];
     lean_on_mask(l, &l->pool[0]);
     l->has_mask = chance(90);
     for (int i = 0; i <= SLOTS; i++) {
@@ -695,13 +697,14 @@ enum {
     F_KIND = 0,
     F_MASK = 1,
     F_BITS = 7,
-    F_CLOCKS = 262,
-    F_FIRST = 268,
-    F_NUM_C = 270,
-    F_CLOCK = 271,
-    F_ORBITS = 386,
-    F_NUM_O = 391,
-    F_ORBIT = 392
+    F_CLOCKS = 39,
+    F_FIRST = 45,
+    F_NUM_C = 47,
+    F_CLOCK = 48,
+    F_ORBITS = 163,
+    F_NUM_O = 168,
+    F_ORBIT = 169,
+    MASK_BYTES = 32
 };
 
 static void form_put(uint8_t *form, size_t at, int size, uint32_t value)
@@ -784,10 +787,11 @@ static void tweak_mask(uint8_t *form)
     switch (below(5)) {
     case 0: tweak_head(form, F_MASK); break;
     case 1: form_put(form, F_MASK + 5, 1, PICK(iodps)); break;
-    case 2: slot = between(1, 174); form_put(form, F_BITS + slot - 1, 1, PICK(bits)); break;
+    case 2: form[F_BITS + below(MASK_BYTES)] = PICK(bits); break;
+    case 3: form[F_BITS + MASK_BYTES - 1] |= 1; break; /* the bit of no slot */
     default:
-        slot = chance(50) ? between(174, 175) : between(175, 255);
-        form_put(form, F_BITS + slot - 1, 1, PICK(bits));
+        slot = chance(50) ? between(174, 175) : between(1, 255);
+        form[F_BITS + (slot - 1) / 8] ^= (uint8_t)(128 >> (slot - 1) % 8);
         break;
     }
 }
@@ -869,10 +873,7 @@ static void junk_unread(uint8_t *form)
     any_bytes(form, QVD_CONTENTS_BYTES);
     form[F_KIND] = (uint8_t)kind;
     if (kind == 1) {
-        keep(form, from, F_MASK, 6 + SLOTS);
-        for (int i = 0; i < SLOTS; i++)
-            if (form[F_BITS + i] == 0 && chance(20))
-                form[F_BITS + i] = (uint8_t)between(2, 255);
+        keep(form, from, F_MASK, 6 + MASK_BYTES);
     } else if (kind == 2) {
         num_o = ORBITS;
     } else if (kind == 4) {
@@ -1980,13 +1981,13 @@ static void compare_made(unsigned long count)
  * are asked for that give more than their number.) */
 static const uint8_t gives[CALLS][16] = {
     [OPEN] = { 4 },
-    [TAKE] = { 1, 3, 4, 5, 6, 7, 8, 9, 10, 11, 12, 13, 14, 15, 19 },
-    [TAKE_DETAIL] = { 1, 3, 4, 5, 6, 7, 8, 9, 10, 11, 12, 13, 14, 15, 19 },
+    [TAKE] = { 1, 3, 4, 5, 6, 7, 8, 9, 10, 11, 12, 14, 15, 19 },
+    [TAKE_DETAIL] = { 1, 3, 4, 5, 6, 7, 8, 9, 10, 11, 12, 14, 15, 19 },
     [REPLAY_DETAIL] = { 6, 19 },
-    [READ] = { 1, 2, 7, 8, 9, 10, 11, 12, 13 },
-    [READ_FRAME] = { 1, 3, 5, 6, 7, 8, 9, 10, 11, 12, 13 },
-    [READ_FRAME_DETAIL] = { 1, 3, 5, 6, 7, 8, 9, 10, 11, 12, 13 },
-    [WRITE] = { 1, 8, 9, 10, 11, 12, 13, 16 },
+    [READ] = { 1, 2, 7, 8, 9, 10, 11, 12 },
+    [READ_FRAME] = { 1, 3, 5, 6, 7, 8, 9, 10, 11, 12 },
+    [READ_FRAME_DETAIL] = { 1, 3, 5, 6, 7, 8, 9, 10, 11, 12 },
+    [WRITE] = { 1, 8, 9, 10, 11, 12, 16 },
     [ROWS] = { 1, 17 },
     [ROW] = { 1, 11, 17, 18 },
     [D1_READ] = { 31, 32, 33, 34 },

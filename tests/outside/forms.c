@@ -49,8 +49,12 @@ void contents_to_bytes(const struct contents *c, uint8_t bytes[CONTENTS_FORM_BYT
     at = put(at, 4, c->mask.epoch);
     at = put(at, 1, c->mask.iod_ssr);
     at = put(at, 1, c->mask.iodp);
-    for (int slot = 1; slot <= SLOTS; slot++)
-        at = put(at, 1, c->mask.set[slot]);
+    for (int first = 1; first <= SLOTS; first += 8) {
+        unsigned byte = 0;
+        for (int slot = first; slot < first + 8; slot++)
+            byte = 2 * byte + (slot <= SLOTS ? c->mask.set[slot] : c->mask.last);
+        at = put(at, 1, byte);
+    }
 
     at = put(at, 4, c->clocks.epoch);
     at = put(at, 1, c->clocks.iod_ssr);
@@ -89,8 +93,11 @@ void contents_from_bytes(const uint8_t bytes[CONTENTS_FORM_BYTES], struct conten
     c->mask.epoch = get(&at, 4);
     c->mask.iod_ssr = (uint8_t)get(&at, 1);
     c->mask.iodp = (uint8_t)get(&at, 1);
-    for (int slot = 1; slot <= SLOTS; slot++)
-        c->mask.set[slot] = get(&at, 1) == 1;
+    for (int first = 1; first <= SLOTS; first += 8) {
+        unsigned byte = get(&at, 1);
+        for (int slot = first; slot < first + 8; slot++)
+            *(slot <= SLOTS ? &c->mask.set[slot] : &c->mask.last) = byte >> (first + 7 - slot) & 1;
+    }
 
     c->clocks.epoch = get(&at, 4);
     c->clocks.iod_ssr = (uint8_t)get(&at, 1);

@@ -5,7 +5,7 @@
 
 #include "ref.h"
 
-enum { ROW_FORM_BYTES = 27, CONTENTS_FORM_BYTES = 488 };
+enum { ROW_FORM_BYTES = 27, CONTENTS_FORM_BYTES = 265 };
 
 void row_to_bytes(const struct row *row, uint8_t bytes[ROW_FORM_BYTES]);
 void contents_to_bytes(const struct contents *c, uint8_t bytes[CONTENTS_FORM_BYTES]);

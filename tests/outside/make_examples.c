@@ -426,7 +426,7 @@ static void ends(void)
     end();
 }
 
-/* Bits 1 to 174 of a mask can be set. A slot is at most 255, Slot_S too and not
+/* Every bit of a mask can be set, also those of reserved slots. A slot is at most 255, Slot_S too and not
  * 0; one slot may not stand twice among a message's orbits, nor twice among the
  * clocks of type 7, but once in each part. The mask in force has one set bit, so
  * Slot_S 255 is allowed and no satellite has the place: 19. */
@@ -437,7 +437,10 @@ static void slots(void)
     mask_head(&c, 1, 5);
     c.mask.set[174] = true;
     hand_contents(c, 0, NULL);
-    hand_patched(c, 6 + 17 + 4 + 2 + 4 + 174, 1, 1, 13); /* slot 175 */
+    c.mask.set[175] = c.mask.set[255] = true;
+    hand_contents(c, 0, NULL);
+    c.mask.set[175] = c.mask.set[255] = false;
+    hand_contents(c, 0, NULL);
     c = orbit_alone((struct orbit_record){ .slot = 255 });
     hand_contents(c, 0, NULL);
     hand_patched(c, FIRST_ORBIT_2, 9, 256, 11);

@@ -25,7 +25,6 @@ static const char *const refusal_words[] = {
     [10] = "epoch above 86399",
     [11] = "slot out of range",
     [12] = "one slot twice",
-    [13] = "mask bit set for a reserved slot",
     [14] = "no mask in force, or its IOD SSR or IODP differ",
     [15] = "no satellite has the sub-type's first place",
     [16] = "a field exceeds its width, or no URA code gives the quarters",
@@ -244,6 +243,15 @@ static void take_piece(const uint8_t *piece, size_t n)
 
 /* ---- the report ---- */
 
+/* How many places of the mask in force are those of satellites: they come first. */
+static unsigned assigned(void)
+{
+    unsigned n = 0;
+    while (n < ledger.places && ledger.slot_at[n + 1] <= ASSIGNED_SLOTS)
+        n++;
+    return n;
+}
+
 static void print_counts(void)
 {
     printf("frames %lu taken %lu refused %lu\n", pieces, taken, pieces - taken);
@@ -251,9 +259,11 @@ static void print_counts(void)
         if (refused[i] > 0)
             printf("refusal %d %lu %s\n", i, refused[i], refusal_words[i]);
     if (ledger.has_mask)
-        printf("mask ssr %u iodp %u satellites %u\n", ledger.mask.iod_ssr, ledger.mask.iodp, ledger.places);
+        printf("mask ssr %u iodp %u satellites %u\n", ledger.mask.iod_ssr, ledger.mask.iodp, assigned());
     else
         printf("mask none\n");
+    if (ledger.has_mask && assigned() < ledger.places)
+        printf("reserved %u\n", ledger.places - assigned());
     if (epochs.any)
         printf("epochs first %u last %u longest-gap %u frames-since %lu\n", (unsigned)epochs.first, (unsigned)epochs.last,
                (unsigned)epochs.gap, pieces - epochs.piece);
@@ -304,14 +314,14 @@ static void print_rows(char separator, const struct row *rows, size_t count)
 static void print_absent(const uint16_t issues[SLOTS], size_t rows)
 {
     unsigned absent = 0;
-    for (unsigned n = 1; ledger.has_mask && n <= ledger.places; n++)
+    for (unsigned n = 1; ledger.has_mask && n <= assigned(); n++)
         absent += ref_reason(&ledger, issues, ledger.slot_at[n]) != HAS_ROW;
-    if (ledger.has_mask && absent + rows != ledger.places)
+    if (ledger.has_mask && absent + rows != assigned())
         stop("the list", "rows and reasons do not fit each other");
     printf("absent %u\n", absent);
     if (absent > 0)
         printf("slot sat why\n");
-    for (unsigned n = 1; absent > 0 && n <= ledger.places; n++) {
+    for (unsigned n = 1; absent > 0 && n <= assigned(); n++) {
         unsigned slot = ledger.slot_at[n], reason = ref_reason(&ledger, issues, slot);
         if (reason == HAS_ROW)
             continue;

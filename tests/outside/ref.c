@@ -290,16 +290,7 @@ static bool slot_twice(const struct contents *c)
     return false;
 }
 
-static bool mask_reserved(const struct contents *c)
-{
-    if (has_mask_part(c))
-        for (int slot = ASSIGNED_SLOTS + 1; slot <= SLOTS; slot++)
-            if (c->mask.set[slot])
-                return true;
-    return false;
-}
-
-/* Refusals 10 to 13, for reading and writing alike. */
+/* Refusals 10 to 12, for reading and writing alike. */
 static unsigned judge(const struct contents *c)
 {
     if (epoch_wrong(c))
@@ -308,8 +299,6 @@ static unsigned judge(const struct contents *c)
         return 11;
     if (slot_twice(c))
         return 12;
-    if (mask_reserved(c))
-        return 13;
     return 0;
 }
 
@@ -373,7 +362,7 @@ static void read_mask(struct reader *r, struct mask *mask)
         mask->set[slot] = r->bytes[r->at / 8] >> (7 - r->at % 8) & 1;
 }
 
-/* Refusals 7 to 13, and what the message says where there are none. `out` is
+/* Refusals 7 to 12, and what the message says where there are none. `out` is
  * all zero when this begins, and nothing that counts after a refusal. */
 static unsigned read_fields(const uint8_t message[MESSAGE_BYTES], struct contents *out)
 {
@@ -502,10 +491,10 @@ static bool clock_fits(const struct clock_record *c, unsigned kind)
     return (kind == 7 && c->slot == 0) || (c->iod_corr <= 7 && fits_signed(c->c0, 15));
 }
 
-/* Whether each field that refusals 8 to 13 do not speak of can be written. */
+/* Whether each field that refusals 8 to 12 do not speak of can be written. */
 static bool fields_fit(const struct contents *c)
 {
-    if (has_mask_part(c) && (c->mask.iod_ssr > 3 || c->mask.iodp > 15))
+    if (has_mask_part(c) && (c->mask.iod_ssr > 3 || c->mask.iodp > 15 || c->mask.last))
         return false;
     if (clock_count(c) > 0 && c->clocks.iod_ssr > 3)
         return false;

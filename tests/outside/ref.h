@@ -38,6 +38,7 @@ struct mask {
     uint8_t iod_ssr;
     uint8_t iodp;
     bool set[SLOTS + 1]; /* by slot; entry 0 is not used */
+    bool last;           /* the bit after that of slot 255 in 32 bytes: no slot's */
 };
 
 struct clock_record {
@@ -164,11 +165,11 @@ int ref_ura_code(struct ura ura);
 uint32_t ref_get_bits(const uint8_t *bytes, size_t at, unsigned width);
 void ref_put_bits(uint8_t *bytes, size_t at, unsigned width, uint32_t value);
 
-/* Messages: refusals 1, 2, 7 to 13 on reading; 1, 8 to 13, 16 on writing. */
+/* Messages: refusals 1, 2, 7 to 12 on reading; 1, 8 to 12, 16 on writing. */
 unsigned ref_read(const uint8_t *message, size_t length, struct contents *out);
 unsigned ref_write(const struct contents *in, uint8_t *room, size_t length);
 
-/* A frame without a ledger: refusals 1, 3, 5 to 13. */
+/* A frame without a ledger: refusals 1, 3, 5 to 12. */
 unsigned ref_read_frame(const uint8_t *frame, size_t length, struct contents *out);
 unsigned ref_read_frame_detail(const uint8_t *frame, size_t length, struct contents *out, struct detail *detail);
 

@@ -3,7 +3,7 @@ use Prim.Native.Nat.{ℕ, _*_}
 
 -- the bytes of contents
 abbrev pub contentsSize : ℕ
-contentsSize = 488
+contentsSize = 265
 
 -- the bytes of a row
 abbrev pub rowSize : ℕ

@@ -75,7 +75,7 @@ pub fn put_refusal(room: &mut [u8], at: usize, number: u8) -> usize
         epoch above 86399\n\
         slot out of range\n\
         one slot twice\n\
-        mask bit set for a reserved slot\n\
+        \n\
         no mask in force, or its IOD SSR or IODP differ\n\
         no satellite has the sub-type's first place\n\
         a field exceeds its width, or no URA code gives the quarters\n\

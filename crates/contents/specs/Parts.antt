@@ -1,6 +1,6 @@
 -- 01, Message fields, in order: the parts of a message and how they are read. Blank records are all zero, records past a count and absent parts too.
 use Prim.Native.Nat.{ℕ, _+_, _*_}
-use mathlib.Core.Bool.{Bool, false}
+use mathlib.Core.Bool.{Bool}
 use mathlib.Core.List.{List}
 use lib.Dec.{eqb, ltb}
 use lib.ListN.{getD}
@@ -34,7 +34,7 @@ orbitNth s at count i = pick (ltb i count) (orbitAt s (at + 69 * i)) blankOrbit
 unfoldable pub orbitsAt : List ℕ → ℕ → ℕ → List Orbit
 orbitsAt s at count = table (orbitNth s at count) 6
 
--- 01: entry i of the mask is the bit of slot i + 1
+-- 01: entry i of the mask from bit `at` on is the bit of slot i + 1
 abbrev pub maskBitAt : List ℕ → ℕ → ℕ → Bool
 maskBitAt s at i = eqb (bitAt s (at + i)) 1
 
@@ -42,11 +42,23 @@ maskBitAt s at i = eqb (bitAt s (at + i)) 1
 unfoldable pub maskBitsAt : List ℕ → ℕ → List Bool
 maskBitsAt s at = table (maskBitAt s at) 255
 
+-- 02, CR 13: byte j of the 32 that hold the mask from bit `at` on: eight bits, slot 1 the high bit of the first; the last has seven, and a 0
+abbrev pub maskByteAt : List ℕ → ℕ → ℕ → ℕ
+maskByteAt s at j = pick (ltb j 31) (fieldAt s (at + 8 * j) 8) (2 * fieldAt s (at + 8 * j) 7)
+
+-- 02, CR 13: mask [255] in 32 bytes
+unfoldable pub maskBytesAt : List ℕ → ℕ → List ℕ
+maskBytesAt s at = table (maskByteAt s at) 32
+
+-- 02, CR 13: the bits of slots 1 to 255 that 32 bytes hold
+abbrev pub bitsOf : List ℕ → List Bool
+bitsOf bytes = maskBitsAt bytes 0
+
 -- 01, type 1: epoch [17], reserved [4], IOD SSR [2], IODP [4], mask [255]
 abbrev pub maskPartAt : List ℕ → ℕ → MaskPart
 maskPartAt s at =
     let h = fieldsAt s at (partWidths 4 0) in
-    record { epoch = getD h 0 0; ssr = getD h 2 0; iodp = getD h 3 0; bits = maskBitsAt s (at + 27) }
+    record { epoch = getD h 0 0; ssr = getD h 2 0; iodp = getD h 3 0; bytes = maskBytesAt s (at + 27) }
 
 -- 01, types 4, 6 and 7: epoch [17], reserved [4], IOD SSR [2], IODP [4], sub-type [5] or Slot_S [9], clock records
 abbrev pub clockPartAt : List ℕ → ℕ → Layout → ClockPart
@@ -69,7 +81,7 @@ orbitPartAt s at l =
 
 -- an absent mask part is all zero
 unfoldable pub noMask : MaskPart
-noMask = record { epoch = 0; ssr = 0; iodp = 0; bits = table (λ (i : ℕ). false) 255 }
+noMask = record { epoch = 0; ssr = 0; iodp = 0; bytes = table (λ (j : ℕ). 0) 32 }
 
 -- an absent clock part is all zero
 unfoldable pub noClocks : ClockPart

@@ -4,12 +4,12 @@ ghost use Rattle.contents.specs.Parts.{noMask, noClocks, noOrbits, noCon
 use records::clock::Clock;
 use records::orbit::Orbit;
 
-// Type 1: entry i of bits is the bit of slot i + 1.
+// Type 1: the mask's 255 bits in 32 bytes, slot 1 the high bit of the first; the last bit is 0.
 pub struct MaskPart {
     pub epoch: u32,
     pub ssr: u8,
     pub iodp: u8,
-    pub bits: [bool; 255],
+    pub bytes: [u8; 32],
 }
 
 // Types 4, 6 and 7: start is the sub-type in type 4, Slot_S in type 6.
@@ -42,12 +42,12 @@ pub struct Contents {
 pub fn no_mask() -> MaskPart
     ensures { λ r. ⌜ r ≡ noMask ⌝ }
 {
-    let bits = [false; 255];
+    let bytes = [0u8; 32];
     MaskPart {
         epoch: 0,
         ssr: 0,
         iodp: 0,
-        bits,
+        bytes,
     }
 }
 

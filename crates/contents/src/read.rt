@@ -1,7 +1,7 @@
 // Reading: the contents of a message that begins at any bit.
 ghost use mathlib.Core.Path.{_≡_};
 ghost use Prim.Native.Nat.{_+_, _<_, _≤_};
-ghost use Rattle.contents.specs.Parts.{clockNth, clocksAt, orbitNth, orbitsAt, maskBitAt, maskBitsAt, maskPartAt, clockPartAt, orbitPartAt, maskIn, clocksIn, orbitsIn, layoutAt, contentsAt};
+ghost use Rattle.contents.specs.Parts.{clockNth, clocksAt, orbitNth, orbitsAt, maskByteAt, maskBytesAt, maskPartAt, clockPartAt, orbitPartAt, maskIn, clocksIn, orbitsIn, layoutAt, contentsAt};
 use crate::parts::ClockPart;
 use crate::parts::Contents;
 use crate::parts::MaskPart;
@@ -71,25 +71,28 @@ fn read_orbits(s: &[u8], at: u32, count: u8) -> [Orbit; 6]
     out
 }
 
-// Whether the mask has the bit of slot i + 1.
-fn mask_bit(s: &[u8], at: u32, i: u32) -> bool
-    requires { ⌜ (at < 100000) × (i < 255) ⌝ }
-    ensures { λ r. ⌜ r ≡ maskBitAt (now (s .entry)) at i ⌝ }
+// Byte j of the mask, from 0: the bits of eight slots; the last has those of seven, and a 0.
+fn mask_byte(s: &[u8], at: u32, j: u32) -> u8
+    requires { ⌜ (at < 100000) × (j < 32) ⌝ }
+    ensures { λ r. ⌜ r ≡ maskByteAt (now (s .entry)) at j ⌝ }
 {
-    let a = at as usize + i as usize;
-    bits::bit(s, a) == 1
+    let a = at as usize + 8 * (j as usize);
+    if j < 31 {
+        return bits::get8(s, a, 8);
+    }
+    2 * bits::get8(s, a, 7)
 }
 
-// The mask's 255 bits.
-fn read_bits(s: &[u8], at: u32) -> [bool; 255]
+// The mask's 255 bits in 32 bytes.
+fn read_mask_bytes(s: &[u8], at: u32) -> [u8; 32]
     requires { ⌜ at < 100000 ⌝ }
-    ensures { λ r. ⌜ r ≡ maskBitsAt (now (s .entry)) at ⌝ }
+    ensures { λ r. ⌜ r ≡ maskBytesAt (now (s .entry)) at ⌝ }
 {
-    let mut out = [false; 255];
-    let mut i: u32 = 0;
-    while i < 255 {
-        out[i as usize] = mask_bit(s, at, i);
-        i += 1;
+    let mut out = [0u8; 32];
+    let mut j: u32 = 0;
+    while j < 32 {
+        out[j as usize] = mask_byte(s, at, j);
+        j += 1;
     }
     out
 }
@@ -103,12 +106,12 @@ fn read_mask_part(s: &[u8], at: u32) -> MaskPart
     let epoch = bits::get32(s, a, 17);
     let ssr = bits::get8(s, a + 17 + 4, 2);
     let iodp = bits::get8(s, a + 17 + 4 + 2, 4);
-    let bits = read_bits(s, at + 27);
+    let bytes = read_mask_bytes(s, at + 27);
     MaskPart {
         epoch,
         ssr,
         iodp,
-        bits,
+        bytes,
     }
 }
 

@@ -14,7 +14,7 @@ use verdict::number_of;
 
 // A ledger for PRN 60.
 pub(crate) fn opened() -> Ledger {
-    let mut ledger = [0u8; 9440];
+    let mut ledger = [0u8; 9216];
     open(&mut ledger, 60);
     ledger
 }

@@ -174,7 +174,7 @@ fn say_read_bit(text: &[u8], at: usize) {
 
 // Whether a ledger can be opened for a PRN.
 fn opens(prn: u8) -> bool {
-    let mut ledger = [0u8; 9440];
+    let mut ledger = [0u8; 9216];
     number_of(ledger::open::open(&mut ledger, prn)) == 0
 }
 

@@ -1,10 +1,13 @@
 -- Laws of the forms: their lengths, and the parts one after the other.
-use mathlib.Core.Path.{_≡_, refl, sym, _∙_}
+use mathlib.Core.Path.{_≡_, refl, sym, ap, _∙_}
 use Prim.Native.Nat.{ℕ, _*_, _/_, _%_}
 use mathlib.Core.List.{List, [], _∷_, _++_}
-use lib.ListN.{length, length-append}
+use lib.ListN.{getD, length, length-append}
 use native.Mathlib.Omega.{arith}
-use Rattle.bits.specs.Bytes.{storeAt}
+use native.Mathlib.Nat.{zero-add}
+use Rattle.bits.specs.Bytes.{storeAt, rowAt}
+use Rattle.bits.proofs.ByteLaws.{length-row}
+use Rattle.bits.proofs.TableLaws.{table-ext, table-same}
 use Rattle.records.specs.declared.orbit.Orbit.{Orbit}
 use Rattle.records.specs.declared.clock.Clock.{Clock}
 use Rattle.contents.specs.declared.parts.MaskPart.{MaskPart}
@@ -12,8 +15,6 @@ use Rattle.contents.specs.declared.parts.ClockPart.{ClockPart}
 use Rattle.contents.specs.declared.parts.OrbitPart.{OrbitPart}
 use Rattle.contents.specs.declared.parts.Contents.{Contents}
 use Rattle.list.specs.declared.row.Row.{Row}
-use Rattle.lent.specs.Digits.{flagsOf}
-use Rattle.lent.proofs.DigitLaws.{length-flags}
 use Rattle.flat_forms.specs.Write.{flatClockRow, flatOrbitRow, rowsTo, maskHead, clockHead, orbitHead, flatMaskBytes, clocksBytes, orbitsBytes, contentsBytes, rowList, rowBytes}
 use Rattle.flat_forms.proofs.StoreLaws.{store-two, store-whole, length-rows}
 
@@ -24,9 +25,9 @@ length-clocks ks n = length-rows (flatClockRow ks) 5 (λ i. refl) n
 pub length-orbits : (os : List Orbit) (n : ℕ) → length (rowsTo (flatOrbitRow os) n) ≡ 16 * n
 length-orbits os n = length-rows (flatOrbitRow os) 16 (λ i. refl) n
 
-pub mask-long : (kind : ℕ) (m : MaskPart) → length (flatMaskBytes kind m) ≡ 262
+pub mask-long : (kind : ℕ) (m : MaskPart) → length (flatMaskBytes kind m) ≡ 39
 unfolding flatMaskBytes
-mask-long kind m = length-append (maskHead kind (m .epoch) (m .ssr) (m .iodp)) (flagsOf (m .bits)) ∙ omega (arith, length-flags (m .bits))
+mask-long kind m = length-append (maskHead kind (m .epoch) (m .ssr) (m .iodp)) (rowAt (m .bytes) 0 32) ∙ omega (arith, length-row (m .bytes) 0 32)
 
 pub clocks-long : (p : ClockPart) → length (clocksBytes p) ≡ 124
 unfolding clocksBytes
@@ -36,8 +37,8 @@ pub orbits-long : (p : OrbitPart) → length (orbitsBytes p) ≡ 102
 unfolding orbitsBytes
 orbits-long p = length-append (orbitHead (p .epoch) (p .ssr) (p .count)) (rowsTo (flatOrbitRow (p .orbits)) 6) ∙ omega (arith, length-orbits (p .orbits) 6)
 
--- contents are 488 bytes
-pub contents-long : (c : Contents) → length (contentsBytes c) ≡ 488
+-- contents are 265 bytes
+pub contents-long : (c : Contents) → length (contentsBytes c) ≡ 265
 unfolding contentsBytes
 contents-long c =
     length-append (flatMaskBytes (c .kind) (c .mask)) (clocksBytes (c .clock) ++ orbitsBytes (c .orbit))
@@ -58,28 +59,36 @@ pub orbit-same : (s i o : ℕ) {r r′ a a′ c c′ k k′ q q′ : ℕ} → r 
     _≡_ {A = List ℕ} (s / 256 ∷ s % 256 ∷ i / 256 ∷ i % 256 ∷ o ∷ r / 256 ∷ r % 256 ∷ a / 256 ∷ a % 256 ∷ c / 256 ∷ c % 256 ∷ k ∷ q / 65536 / 256 ∷ q / 65536 % 256 ∷ q % 65536 / 256 ∷ q % 65536 % 256 ∷ []) (s / 256 ∷ s % 256 ∷ i / 256 ∷ i % 256 ∷ o ∷ r′ / 256 ∷ r′ % 256 ∷ a′ / 256 ∷ a′ % 256 ∷ c′ / 256 ∷ c′ % 256 ∷ k′ ∷ q′ / 65536 / 256 ∷ q′ / 65536 % 256 ∷ q′ % 65536 / 256 ∷ q′ % 65536 % 256 ∷ [])
 orbit-same s i o r a c k q = rw (r, a, c, k, q)
 
+-- a list of n bytes is the row of its n bytes
+row-whole : (r : List ℕ) (n : ℕ) → length r ≡ n → rowAt r 0 n ≡ r
+unfolding rowAt
+row-whole r n e = table-ext _ (λ (i : ℕ). getD r i 0) n (λ i h. ap (λ (j : ℕ). getD r j 0) (zero-add i)) ∙ table-same r n 0 e
+
 -- ---- the parts one after the other
-pub mask-two : (s : List ℕ) (kind : ℕ) (m : MaskPart) → storeAt (storeAt s 0 (maskHead kind (m .epoch) (m .ssr) (m .iodp))) 7 (flagsOf (m .bits)) ≡ storeAt s 0 (flatMaskBytes kind m)
+pub mask-two : (s : List ℕ) (kind : ℕ) (m : MaskPart) → length (m .bytes) ≡ 32
+    → storeAt (storeAt s 0 (maskHead kind (m .epoch) (m .ssr) (m .iodp))) 7 (m .bytes) ≡ storeAt s 0 (flatMaskBytes kind m)
 unfolding flatMaskBytes
-mask-two s kind m = store-two s 0 7 (maskHead kind (m .epoch) (m .ssr) (m .iodp)) (flagsOf (m .bits)) refl
+mask-two s kind m long =
+    let head = maskHead kind (m .epoch) (m .ssr) (m .iodp) in
+    ap (storeAt (storeAt s 0 head) 7) (sym (row-whole (m .bytes) 32 long)) ∙ store-two s 0 7 head (rowAt (m .bytes) 0 32) refl
 
-pub clocks-two : (s : List ℕ) (p : ClockPart) → storeAt (storeAt s 262 (clockHead (p .epoch) (p .ssr) (p .iodp) (p .start) (p .count))) 271 (rowsTo (flatClockRow (p .clocks)) 23) ≡ storeAt s 262 (clocksBytes p)
+pub clocks-two : (s : List ℕ) (p : ClockPart) → storeAt (storeAt s 39 (clockHead (p .epoch) (p .ssr) (p .iodp) (p .start) (p .count))) 48 (rowsTo (flatClockRow (p .clocks)) 23) ≡ storeAt s 39 (clocksBytes p)
 unfolding clocksBytes
-clocks-two s p = store-two s 262 271 (clockHead (p .epoch) (p .ssr) (p .iodp) (p .start) (p .count)) (rowsTo (flatClockRow (p .clocks)) 23) refl
+clocks-two s p = store-two s 39 48 (clockHead (p .epoch) (p .ssr) (p .iodp) (p .start) (p .count)) (rowsTo (flatClockRow (p .clocks)) 23) refl
 
-pub orbits-two : (s : List ℕ) (p : OrbitPart) → storeAt (storeAt s 386 (orbitHead (p .epoch) (p .ssr) (p .count))) 392 (rowsTo (flatOrbitRow (p .orbits)) 6) ≡ storeAt s 386 (orbitsBytes p)
+pub orbits-two : (s : List ℕ) (p : OrbitPart) → storeAt (storeAt s 163 (orbitHead (p .epoch) (p .ssr) (p .count))) 169 (rowsTo (flatOrbitRow (p .orbits)) 6) ≡ storeAt s 163 (orbitsBytes p)
 unfolding orbitsBytes
-orbits-two s p = store-two s 386 392 (orbitHead (p .epoch) (p .ssr) (p .count)) (rowsTo (flatOrbitRow (p .orbits)) 6) refl
+orbits-two s p = store-two s 163 169 (orbitHead (p .epoch) (p .ssr) (p .count)) (rowsTo (flatOrbitRow (p .orbits)) 6) refl
 
-pub contents-three : (s : List ℕ) (c : Contents) → storeAt (storeAt (storeAt s 0 (flatMaskBytes (c .kind) (c .mask))) 262 (clocksBytes (c .clock))) 386 (orbitsBytes (c .orbit)) ≡ storeAt s 0 (contentsBytes c)
+pub contents-three : (s : List ℕ) (c : Contents) → storeAt (storeAt (storeAt s 0 (flatMaskBytes (c .kind) (c .mask))) 39 (clocksBytes (c .clock))) 163 (orbitsBytes (c .orbit)) ≡ storeAt s 0 (contentsBytes c)
 unfolding contentsBytes
 contents-three s c =
     let m = flatMaskBytes (c .kind) (c .mask) in
-    store-two (storeAt s 0 m) 262 386 (clocksBytes (c .clock)) (orbitsBytes (c .orbit)) (omega (arith, clocks-long (c .clock)))
-    ∙ store-two s 0 262 m (clocksBytes (c .clock) ++ orbitsBytes (c .orbit)) (omega (arith, mask-long (c .kind) (c .mask)))
+    store-two (storeAt s 0 m) 39 163 (clocksBytes (c .clock)) (orbitsBytes (c .orbit)) (omega (arith, clocks-long (c .clock)))
+    ∙ store-two s 0 39 m (clocksBytes (c .clock) ++ orbitsBytes (c .orbit)) (omega (arith, mask-long (c .kind) (c .mask)))
 
 -- ---- a room of their length becomes the bytes
-pub contents-whole : (s : List ℕ) (c : Contents) → length s ≡ 488 → storeAt s 0 (contentsBytes c) ≡ contentsBytes c
+pub contents-whole : (s : List ℕ) (c : Contents) → length s ≡ 265 → storeAt s 0 (contentsBytes c) ≡ contentsBytes c
 contents-whole s c e = store-whole s (contentsBytes c) (e ∙ sym (contents-long c))
 
 pub row-whole : (s : List ℕ) (r : Row) → length s ≡ 27 → storeAt s 0 (rowBytes r) ≡ rowBytes r

@@ -1,9 +1,9 @@
--- The C boundary: the 488 bytes of contents and the 27 of a row. Numbers are high byte first, those with a sign in two's complement.
+-- The C boundary: the 265 bytes of contents and the 27 of a row. Numbers are high byte first, those with a sign in two's complement.
 use Prim.Native.Nat.{ℕ, zero, suc, _/_, _%_}
 use mathlib.Core.List.{List, [], _∷_, _++_}
 use lib.IntN.{ℤ}
 use lib.ListN.{getD}
-use Rattle.lent.specs.Digits.{flagsOf}
+use Rattle.bits.specs.Bytes.{rowAt}
 use Rattle.records.specs.Signed.{rawHalf}
 use Rattle.records.specs.Orbit.{blankOrbit}
 use Rattle.records.specs.Clock.{blankClock}
@@ -88,9 +88,9 @@ abbrev pub orbitHead : ℕ → ℕ → ℕ → List ℕ
 orbitHead epoch ssr count =
     epoch / 65536 / 256 ∷ epoch / 65536 % 256 ∷ epoch % 65536 / 256 ∷ epoch % 65536 % 256 ∷ ssr ∷ count ∷ []
 
--- the type and the mask part: 262 bytes
+-- the type and the mask part, with the mask in 32 bytes: 39 bytes
 unfoldable pub flatMaskBytes : ℕ → MaskPart → List ℕ
-flatMaskBytes kind m = maskHead kind (m .epoch) (m .ssr) (m .iodp) ++ flagsOf (m .bits)
+flatMaskBytes kind m = maskHead kind (m .epoch) (m .ssr) (m .iodp) ++ rowAt (m .bytes) 0 32
 
 -- the clock part: 124 bytes
 unfoldable pub clocksBytes : ClockPart → List ℕ
@@ -100,7 +100,7 @@ clocksBytes p = clockHead (p .epoch) (p .ssr) (p .iodp) (p .start) (p .count) ++
 unfoldable pub orbitsBytes : OrbitPart → List ℕ
 orbitsBytes p = orbitHead (p .epoch) (p .ssr) (p .count) ++ rowsTo (flatOrbitRow (p .orbits)) 6
 
--- contents: 488 bytes
+-- contents: 265 bytes
 unfoldable pub contentsBytes : Contents → List ℕ
 contentsBytes c = flatMaskBytes (c .kind) (c .mask) ++ (clocksBytes (c .clock) ++ orbitsBytes (c .orbit))
 

@@ -163,12 +163,12 @@ fn put_clock(room: &mut [u8], at: usize, k: Clock)
 
 // The clock records are put.
 fn put_clocks(room: &mut [u8], ks: [Clock; 23])
-    ensures { λ r. ⌜ now (room .exit) ≡ storeAt (now (room .entry)) 271 (rowsTo (flatClockRow ks) 23) ⌝ }
+    ensures { λ r. ⌜ now (room .exit) ≡ storeAt (now (room .entry)) 48 (rowsTo (flatClockRow ks) 23) ⌝ }
 {
     let mut i: usize = 0;
     while i < 23 {
         let k = ks[i];
-        put_clock(room, 271 + 5 * i, k);
+        put_clock(room, 48 + 5 * i, k);
         i += 1;
     }
 }
@@ -183,12 +183,12 @@ fn put_orbit(room: &mut [u8], at: usize, o: Orbit)
 
 // The orbit records are put.
 fn put_orbits(room: &mut [u8], os: [Orbit; 6])
-    ensures { λ r. ⌜ now (room .exit) ≡ storeAt (now (room .entry)) 392 (rowsTo (flatOrbitRow os) 6) ⌝ }
+    ensures { λ r. ⌜ now (room .exit) ≡ storeAt (now (room .entry)) 169 (rowsTo (flatOrbitRow os) 6) ⌝ }
 {
     let mut i: usize = 0;
     while i < 6 {
         let o = os[i];
-        put_orbit(room, 392 + 16 * i, o);
+        put_orbit(room, 169 + 16 * i, o);
         i += 1;
     }
 }
@@ -198,29 +198,28 @@ fn put_mask_part(room: &mut [u8], kind: u8, m: MaskPart)
     ensures { λ r. ⌜ now (room .exit) ≡ storeAt (now (room .entry)) 0 (flatMaskBytes kind m) ⌝ }
 {
     let head = mask_head(kind, m.epoch, m.ssr, m.iodp);
-    let bits = m.bits;
-    let flags = lent::flags_of(bits);
+    let bytes = m.bytes;
     lent::store(room, 0, &head);
-    lent::store(room, 7, &flags);
+    lent::store(room, 7, &bytes);
 }
 
 // The clock part is put.
 fn put_clock_part(room: &mut [u8], p: ClockPart)
-    ensures { λ r. ⌜ now (room .exit) ≡ storeAt (now (room .entry)) 262 (clocksBytes p) ⌝ }
+    ensures { λ r. ⌜ now (room .exit) ≡ storeAt (now (room .entry)) 39 (clocksBytes p) ⌝ }
 {
     let head = clock_head(p.epoch, p.ssr, p.iodp, p.start, p.count);
     let ks = p.clocks;
-    lent::store(room, 262, &head);
+    lent::store(room, 39, &head);
     put_clocks(room, ks);
 }
 
 // The orbit part is put.
 fn put_orbit_part(room: &mut [u8], p: OrbitPart)
-    ensures { λ r. ⌜ now (room .exit) ≡ storeAt (now (room .entry)) 386 (orbitsBytes p) ⌝ }
+    ensures { λ r. ⌜ now (room .exit) ≡ storeAt (now (room .entry)) 163 (orbitsBytes p) ⌝ }
 {
     let head = orbit_head(p.epoch, p.ssr, p.count);
     let os = p.orbits;
-    lent::store(room, 386, &head);
+    lent::store(room, 163, &head);
     put_orbits(room, os);
 }
 

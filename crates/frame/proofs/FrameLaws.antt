@@ -15,7 +15,9 @@ use Rattle.bits.proofs.TableLaws.{length-table}
 use Rattle.records.specs.Clock.{blankClock}
 use Rattle.records.specs.Orbit.{blankOrbit}
 use Rattle.layout.specs.Layout.{orbitsFrom}
-use Rattle.contents.specs.Parts.{maskBitAt, clockNth, orbitNth, maskPartAt, clockPartAt, orbitPartAt, layoutAt, maskBitsAt, clocksAt, orbitsAt, noMask, noClocks, noOrbits, maskIn, clocksIn, orbitsIn, contentsAt}
+use Rattle.contents.specs.Parts.{clockNth, orbitNth, maskPartAt, clockPartAt, orbitPartAt, layoutAt, clocksAt, orbitsAt, noMask, noClocks, noOrbits, maskIn, clocksIn, orbitsIn, contentsAt}
+use Rattle.contents.proofs.MaskLaws.{bytes-long, none-long}
+use Rattle.layout.proofs.LayoutLaws.{pick-all}
 use Rattle.judge.specs.Judge.{isKind, tooLong, late, highSlot, twice, refusalOf}
 use Rattle.contents.specs.declared.parts.MaskPart.{MaskPart}
 use Rattle.contents.specs.declared.parts.ClockPart.{ClockPart}
@@ -75,13 +77,11 @@ sound c e =
     record { kind = not-false (isKind (c .kind)) (r8 .0); short = r9 .0; early = r10 .0; low = r11 .0; once = r12 .0 }
 
 -- ---- the parts of a frame's contents are as long as their arrays
-pub mask-long : (f : List ℕ) → length (contentsOf f .mask .bits) ≡ 255
-unfolding contentsAt maskIn noMask maskBitsAt
-mask-long f = let l = layoutAt f 28 in go (l .mask) (maskPartAt f (28 + l .head)) (length-table (maskBitAt f (28 + l .head + 27)) 255)
-  where
-    go : (b : Bool) (m : MaskPart) → length (m .bits) ≡ 255 → length (pick b m noMask .bits) ≡ 255
-    go true m e = e
-    go false m e = length-table (λ (i : ℕ). false) 255
+pub mask-long : (f : List ℕ) → length (contentsOf f .mask .bytes) ≡ 32
+unfolding contentsAt maskIn
+mask-long f =
+    let l = layoutAt f 28 in
+    pick-all (λ (m : MaskPart). length (m .bytes) ≡ 32) (l .mask) (maskPartAt f (28 + l .head)) noMask (bytes-long f (28 + l .head + 27)) none-long
 
 pub clocks-long : (f : List ℕ) → length (contentsOf f .clock .clocks) ≡ 23
 unfolding contentsAt clocksIn noClocks clocksAt

@@ -1,18 +1,17 @@
 -- The bytes of contents say the contents, whatever numbers they hold, as long as numbers with a sign fit two bytes.
-use mathlib.Core.Path.{_≡_, refl, _∙_}
+use mathlib.Core.Path.{_≡_, refl, ap, _∙_}
 use mathlib.Core.Logic.{⊎-elim}
-use mathlib.Core.Bool.{false}
 use Prim.Native.Nat.{ℕ, zero, suc, _+_, _*_, _<_, _≤_}
 use mathlib.Core.List.{List, _++_}
 use lib.ListN.{getD, length, List·getD-append}
 use lib.Seq.{getD-append-add}
 use lib.Signed.{mag}
-use native.Mathlib.Nat.{not-suc-le-zero, eq-or-lt-of-le, le-of-suc-le-suc, mul-le-mul-left, mul-suc}
+use native.Mathlib.Nat.{zero-add, not-suc-le-zero, eq-or-lt-of-le, le-of-suc-le-suc, mul-le-mul-left, mul-suc}
 use native.Mathlib.Omega.{arith}
 use Rattle.records.proofs.UraLaws.{kind-back}
-use Rattle.bits.proofs.TableLaws.{getD-table, table-ext, table-same}
-use Rattle.lent.specs.Digits.{flagOf, flagsOf}
-use Rattle.lent.proofs.DigitLaws.{flag-back}
+use Rattle.bits.specs.Bytes.{rowAt}
+use Rattle.bits.proofs.ByteLaws.{getD-row}
+use Rattle.bits.proofs.TableLaws.{table-ext, table-same}
 use Rattle.lent.proofs.DigitLaws.{pair-back, quad-back}
 use Rattle.records.specs.Orbit.{blankOrbit}
 use Rattle.records.specs.Clock.{blankClock}
@@ -21,7 +20,7 @@ use Rattle.records.specs.declared.orbit.Orbit.{Orbit}
 use Rattle.records.specs.declared.clock.Clock.{Clock}
 use Rattle.contents.specs.declared.parts.Contents.{Contents}
 use Rattle.records.specs.Ura.{quartersIn}
-use Rattle.from_flat.specs.Read.{flagAt, flagsAt, flatClockNth, flatClocksAt, flatOrbitNth, flatOrbitsAt, flatMaskIn, flatClocksIn, flatOrbitsIn, flatContentsOf}
+use Rattle.from_flat.specs.Read.{flatClockNth, flatClocksAt, flatOrbitNth, flatOrbitsAt, flatMaskIn, flatClocksIn, flatOrbitsIn, flatContentsOf}
 use Rattle.flat_forms.specs.Write.{word, flatClockRow, flatOrbitRow, rowsTo, maskHead, clockHead, orbitHead, flatMaskBytes, clocksBytes, orbitsBytes, contentsBytes}
 use Rattle.flat_forms.proofs.StoreLaws.{length-rows}
 use Rattle.flat_forms.proofs.FlatLaws.{mask-long, clocks-long}
@@ -55,7 +54,7 @@ pub record OrbitFits (o : Orbit) : Type 0 where
 
 -- contents as the code has them: their arrays have their lengths, their numbers fit
 pub record Sound (c : Contents) : Type 0 where
-  pub bits : length (c .mask .bits) ≡ 255
+  pub mask : length (c .mask .bytes) ≡ 32
   pub clocks : length (c .clock .clocks) ≡ 23
   pub orbits : length (c .orbit .orbits) ≡ 6
   pub clock : (i : ℕ) → i < 23 → Fits16 (getD (c .clock .clocks) i blankClock)
@@ -68,48 +67,49 @@ module _ (c : Contents) where
   head-byte k h =
       let m = maskHead (c .kind) (c .mask .epoch) (c .mask .ssr) (c .mask .iodp) in
       List·getD-append (flatMaskBytes (c .kind) (c .mask)) _ 0 k (omega (arith, mask-long (c .kind) (c .mask)))
-      ∙ List·getD-append m (flagsOf (c .mask .bits)) 0 k h
+      ∙ List·getD-append m (rowAt (c .mask .bytes) 0 32) 0 k h
 
-  flag-byte : (i : ℕ) → i < 255 → getD (contentsBytes c) (7 + i) 0 ≡ flagOf (getD (c .mask .bits) i false)
-  unfolding contentsBytes flatMaskBytes flagsOf
-  flag-byte i h =
+  mask-byte : (i : ℕ) → i < 32 → getD (contentsBytes c) (7 + i) 0 ≡ getD (c .mask .bytes) i 0
+  unfolding contentsBytes flatMaskBytes
+  mask-byte i h =
       List·getD-append (flatMaskBytes (c .kind) (c .mask)) _ 0 (7 + i) (omega (arith, mask-long (c .kind) (c .mask)))
-      ∙ right (maskHead (c .kind) (c .mask .epoch) (c .mask .ssr) (c .mask .iodp)) (flagsOf (c .mask .bits)) 7 i (7 + i) refl refl
-      ∙ getD-table (λ (k : ℕ). flagOf (getD (c .mask .bits) k false)) 255 i 0 h
+      ∙ right (maskHead (c .kind) (c .mask .epoch) (c .mask .ssr) (c .mask .iodp)) (rowAt (c .mask .bytes) 0 32) 7 i (7 + i) refl refl
+      ∙ getD-row (c .mask .bytes) 0 32 i h
+      ∙ ap (λ (j : ℕ). getD (c .mask .bytes) j 0) (zero-add i)
 
-  clock-byte : (k at : ℕ) → k < 124 → at ≡ 262 + k → getD (contentsBytes c) at 0 ≡ getD (clocksBytes (c .clock)) k 0
+  clock-byte : (k at : ℕ) → k < 124 → at ≡ 39 + k → getD (contentsBytes c) at 0 ≡ getD (clocksBytes (c .clock)) k 0
   unfolding contentsBytes
   clock-byte k at h e =
-      right (flatMaskBytes (c .kind) (c .mask)) _ 262 k at (mask-long (c .kind) (c .mask)) e
+      right (flatMaskBytes (c .kind) (c .mask)) _ 39 k at (mask-long (c .kind) (c .mask)) e
       ∙ List·getD-append (clocksBytes (c .clock)) (orbitsBytes (c .orbit)) 0 k (omega (arith, clocks-long (c .clock)))
 
-  orbit-byte : (k at : ℕ) → at ≡ 386 + k → getD (contentsBytes c) at 0 ≡ getD (orbitsBytes (c .orbit)) k 0
+  orbit-byte : (k at : ℕ) → at ≡ 163 + k → getD (contentsBytes c) at 0 ≡ getD (orbitsBytes (c .orbit)) k 0
   unfolding contentsBytes
   orbit-byte k at e =
-      right (flatMaskBytes (c .kind) (c .mask)) _ 262 (124 + k) at (mask-long (c .kind) (c .mask)) (omega arith)
+      right (flatMaskBytes (c .kind) (c .mask)) _ 39 (124 + k) at (mask-long (c .kind) (c .mask)) (omega arith)
       ∙ right (clocksBytes (c .clock)) (orbitsBytes (c .orbit)) 124 k (124 + k) (clocks-long (c .clock)) refl
 
-  clock-head : (k at : ℕ) → k < 9 → at ≡ 262 + k →
+  clock-head : (k at : ℕ) → k < 9 → at ≡ 39 + k →
       getD (contentsBytes c) at 0 ≡ getD (clockHead (c .clock .epoch) (c .clock .ssr) (c .clock .iodp) (c .clock .start) (c .clock .count)) k 0
   unfolding clocksBytes
   clock-head k at h e =
       clock-byte k at (omega arith) e
       ∙ List·getD-append (clockHead (c .clock .epoch) (c .clock .ssr) (c .clock .iodp) (c .clock .start) (c .clock .count)) (rowsTo (flatClockRow (c .clock .clocks)) 23) 0 k h
 
-  orbit-head : (k at : ℕ) → k < 6 → at ≡ 386 + k → getD (contentsBytes c) at 0 ≡ getD (orbitHead (c .orbit .epoch) (c .orbit .ssr) (c .orbit .count)) k 0
+  orbit-head : (k at : ℕ) → k < 6 → at ≡ 163 + k → getD (contentsBytes c) at 0 ≡ getD (orbitHead (c .orbit .epoch) (c .orbit .ssr) (c .orbit .count)) k 0
   unfolding orbitsBytes
   orbit-head k at h e =
       orbit-byte k at e
       ∙ List·getD-append (orbitHead (c .orbit .epoch) (c .orbit .ssr) (c .orbit .count)) (rowsTo (flatOrbitRow (c .orbit .orbits)) 6) 0 k h
 
-  clock-row : (i k at : ℕ) → i < 23 → k < 5 → at ≡ 271 + 5 * i + k → getD (contentsBytes c) at 0 ≡ getD (flatClockRow (c .clock .clocks) i) k 0
+  clock-row : (i k at : ℕ) → i < 23 → k < 5 → at ≡ 48 + 5 * i + k → getD (contentsBytes c) at 0 ≡ getD (flatClockRow (c .clock .clocks) i) k 0
   unfolding clocksBytes
   clock-row i k at h l e =
       clock-byte (9 + (5 * i + k)) at (omega arith) (omega arith)
       ∙ right (clockHead (c .clock .epoch) (c .clock .ssr) (c .clock .iodp) (c .clock .start) (c .clock .count)) (rowsTo (flatClockRow (c .clock .clocks)) 23) 9 (5 * i + k) _ refl refl
       ∙ row-at (flatClockRow (c .clock .clocks)) 5 (λ j. refl) 23 i k h l
 
-  orbit-row : (i k at : ℕ) → i < 6 → k < 16 → at ≡ 392 + 16 * i + k → getD (contentsBytes c) at 0 ≡ getD (flatOrbitRow (c .orbit .orbits) i) k 0
+  orbit-row : (i k at : ℕ) → i < 6 → k < 16 → at ≡ 169 + 16 * i + k → getD (contentsBytes c) at 0 ≡ getD (flatOrbitRow (c .orbit .orbits) i) k 0
   unfolding orbitsBytes
   orbit-row i k at h l e =
       orbit-byte (6 + (16 * i + k)) at (omega arith)
@@ -120,7 +120,7 @@ module _ (c : Contents) where
   clock-nth : (i : ℕ) → i < 23 → Fits16 (getD (c .clock .clocks) i blankClock) → flatClockNth (contentsBytes c) i ≡ getD (c .clock .clocks) i blankClock
   clock-nth i h fits =
       let k = getD (c .clock .clocks) i blankClock in
-      let at = 271 + 5 * i in
+      let at = 48 + 5 * i in
       rw (
         clock-row i 0 at h (omega arith) (omega arith),
         clock-row i 1 (at + 1) h (omega arith) (omega arith),
@@ -135,7 +135,7 @@ module _ (c : Contents) where
   orbit-nth : (i : ℕ) → i < 6 → OrbitFits (getD (c .orbit .orbits) i blankOrbit) → flatOrbitNth (contentsBytes c) i ≡ getD (c .orbit .orbits) i blankOrbit
   orbit-nth i h fits =
       let o = getD (c .orbit .orbits) i blankOrbit in
-      let at = 392 + 16 * i in
+      let at = 169 + 16 * i in
       rw (
         orbit-row i 0 at h (omega arith) (omega arith),
         orbit-row i 1 (at + 1) h (omega arith) (omega arith),
@@ -167,13 +167,11 @@ module _ (c : Contents) where
         kind-back (o .ura),
       ))
 
-  flags-same : length (c .mask .bits) ≡ 255 → flagsAt (contentsBytes c) ≡ c .mask .bits
-  unfolding flagsAt
-  flags-same e =
-      table-ext (flagAt (contentsBytes c)) (λ (i : ℕ). getD (c .mask .bits) i false) 255 (λ i h. rw (flag-byte i h) (flag-back (getD (c .mask .bits) i false)))
-      ∙ table-same (c .mask .bits) 255 false e
+  bytes-same : length (c .mask .bytes) ≡ 32 → rowAt (contentsBytes c) 7 32 ≡ c .mask .bytes
+  unfolding rowAt
+  bytes-same e = table-ext _ (λ (i : ℕ). getD (c .mask .bytes) i 0) 32 mask-byte ∙ table-same (c .mask .bytes) 32 0 e
 
-  mask-same : length (c .mask .bits) ≡ 255 → flatMaskIn (contentsBytes c) ≡ c .mask
+  mask-same : length (c .mask .bytes) ≡ 32 → flatMaskIn (contentsBytes c) ≡ c .mask
   unfolding flatMaskIn
   mask-same e =
       rw (
@@ -183,7 +181,7 @@ module _ (c : Contents) where
         head-byte 4 (omega arith),
         head-byte 5 (omega arith),
         head-byte 6 (omega arith),
-        flags-same e,
+        bytes-same e,
         quad-back (c .mask .epoch),
       )
 
@@ -204,15 +202,15 @@ module _ (c : Contents) where
     unfolding flatClocksIn
     clock-part =
         rw (
-          clock-head 0 262 (omega arith) refl,
-          clock-head 1 263 (omega arith) refl,
-          clock-head 2 264 (omega arith) refl,
-          clock-head 3 265 (omega arith) refl,
-          clock-head 4 266 (omega arith) refl,
-          clock-head 5 267 (omega arith) refl,
-          clock-head 6 268 (omega arith) refl,
-          clock-head 7 269 (omega arith) refl,
-          clock-head 8 270 (omega arith) refl,
+          clock-head 0 39 (omega arith) refl,
+          clock-head 1 40 (omega arith) refl,
+          clock-head 2 41 (omega arith) refl,
+          clock-head 3 42 (omega arith) refl,
+          clock-head 4 43 (omega arith) refl,
+          clock-head 5 44 (omega arith) refl,
+          clock-head 6 45 (omega arith) refl,
+          clock-head 7 46 (omega arith) refl,
+          clock-head 8 47 (omega arith) refl,
           clocks-same,
           quad-back (c .clock .epoch),
           pair-back (c .clock .start),
@@ -222,12 +220,12 @@ module _ (c : Contents) where
     unfolding flatOrbitsIn
     orbit-part =
         rw (
-          orbit-head 0 386 (omega arith) refl,
-          orbit-head 1 387 (omega arith) refl,
-          orbit-head 2 388 (omega arith) refl,
-          orbit-head 3 389 (omega arith) refl,
-          orbit-head 4 390 (omega arith) refl,
-          orbit-head 5 391 (omega arith) refl,
+          orbit-head 0 163 (omega arith) refl,
+          orbit-head 1 164 (omega arith) refl,
+          orbit-head 2 165 (omega arith) refl,
+          orbit-head 3 166 (omega arith) refl,
+          orbit-head 4 167 (omega arith) refl,
+          orbit-head 5 168 (omega arith) refl,
           orbits-same,
           quad-back (c .orbit .epoch),
         )
@@ -235,4 +233,4 @@ module _ (c : Contents) where
     -- THE LAW: the bytes of contents say the contents
     pub contents-back : flatContentsOf (contentsBytes c) ≡ c
     unfolding flatContentsOf
-    contents-back = rw (head-byte 0 (omega arith), mask-same (s .bits), clock-part, orbit-part)
+    contents-back = rw (head-byte 0 (omega arith), mask-same (s .mask), clock-part, orbit-part)

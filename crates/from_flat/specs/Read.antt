@@ -1,9 +1,8 @@
--- The C boundary: the contents that 488 bytes say. Numbers are high byte first, those with a sign in two's complement; bytes past the end are 0.
+-- The C boundary: the contents that 265 bytes say. Numbers are high byte first, those with a sign in two's complement; bytes past the end are 0.
 use Prim.Native.Nat.{ℕ, _+_, _*_}
-use mathlib.Core.Bool.{Bool}
 use mathlib.Core.List.{List}
-use lib.Dec.{eqb}
 use lib.ListN.{getD}
+use Rattle.bits.specs.Bytes.{rowAt}
 use Rattle.bits.specs.Table.{table}
 use Rattle.lent.specs.Digits.{twoAt, fourAt}
 use Rattle.records.specs.Signed.{signedHalf}
@@ -15,21 +14,13 @@ use Rattle.contents.specs.declared.parts.ClockPart.{ClockPart}
 use Rattle.contents.specs.declared.parts.OrbitPart.{OrbitPart}
 use Rattle.contents.specs.declared.parts.Contents.{Contents}
 
--- a flag of the mask: byte 1 is set, anything else not
-abbrev pub flagAt : List ℕ → ℕ → Bool
-flagAt s i = eqb (getD s (7 + i) 0) 1
-
--- the flags of slots 1 to 255, from byte 7 on
-unfoldable pub flagsAt : List ℕ → List Bool
-flagsAt s = table (flagAt s) 255
-
 -- clock record: slot (2), IOD Corr (1), C0 (2)
 abbrev pub flatClockAt : List ℕ → ℕ → Clock
 flatClockAt s at = record { slot = twoAt s at; corr = getD s (at + 2) 0; c0 = signedHalf 32768 (twoAt s (at + 3)) }
 
--- clock record i of 23, from byte 271 on
+-- clock record i of 23, from byte 48 on
 abbrev pub flatClockNth : List ℕ → ℕ → Clock
-flatClockNth s i = flatClockAt s (271 + 5 * i)
+flatClockNth s i = flatClockAt s (48 + 5 * i)
 
 -- the clock records
 unfoldable pub flatClocksAt : List ℕ → List Clock
@@ -48,33 +39,33 @@ flatOrbitAt s at =
       ura = heldUra (getD s (at + 11) 0) (fourAt s (at + 12));
     }
 
--- orbit record i of 6, from byte 392 on
+-- orbit record i of 6, from byte 169 on
 abbrev pub flatOrbitNth : List ℕ → ℕ → Orbit
-flatOrbitNth s i = flatOrbitAt s (392 + 16 * i)
+flatOrbitNth s i = flatOrbitAt s (169 + 16 * i)
 
 -- the orbit records
 unfoldable pub flatOrbitsAt : List ℕ → List Orbit
 flatOrbitsAt s = table (flatOrbitNth s) 6
 
--- mask part: epoch (4), IOD SSR (1), IODP (1), flags (255)
+-- mask part: epoch (4), IOD SSR (1), IODP (1), mask (32)
 unfoldable pub flatMaskIn : List ℕ → MaskPart
-flatMaskIn s = record { epoch = fourAt s 1; ssr = getD s 5 0; iodp = getD s 6 0; bits = flagsAt s }
+flatMaskIn s = record { epoch = fourAt s 1; ssr = getD s 5 0; iodp = getD s 6 0; bytes = rowAt s 7 32 }
 
 -- clock part: epoch (4), IOD SSR (1), IODP (1), sub-type or Slot_S (2), count (1), 23 records
 unfoldable pub flatClocksIn : List ℕ → ClockPart
 flatClocksIn s =
     record {
-      epoch = fourAt s 262;
-      ssr = getD s 266 0;
-      iodp = getD s 267 0;
-      start = twoAt s 268;
-      count = getD s 270 0;
+      epoch = fourAt s 39;
+      ssr = getD s 43 0;
+      iodp = getD s 44 0;
+      start = twoAt s 45;
+      count = getD s 47 0;
       clocks = flatClocksAt s;
     }
 
 -- orbit part: epoch (4), IOD SSR (1), count (1), 6 records
 unfoldable pub flatOrbitsIn : List ℕ → OrbitPart
-flatOrbitsIn s = record { epoch = fourAt s 386; ssr = getD s 390 0; count = getD s 391 0; orbits = flatOrbitsAt s }
+flatOrbitsIn s = record { epoch = fourAt s 163; ssr = getD s 167 0; count = getD s 168 0; orbits = flatOrbitsAt s }
 
 -- contents: type (1), mask part, clock part, orbit part
 unfoldable pub flatContentsOf : List ℕ → Contents

@@ -1,8 +1,9 @@
 // Contents from the bytes that include/quieuvodan.h fixes, for C and Rust; bytes past the end are 0.
 ghost use mathlib.Core.Path.{_≡_};
 ghost use Prim.Native.Nat.{_<_};
+ghost use Rattle.bits.specs.Bytes.{rowAt};
 ghost use Rattle.records.specs.Signed.{signedHalf};
-ghost use Rattle.from_flat.specs.Read.{flagsAt, flatClockAt, flatClocksAt, flatOrbitAt, flatOrbitsAt, flatMaskIn, flatClocksIn, flatOrbitsIn, flatContentsOf};
+ghost use Rattle.from_flat.specs.Read.{flatClockAt, flatClocksAt, flatOrbitAt, flatOrbitsAt, flatMaskIn, flatClocksIn, flatOrbitsIn, flatContentsOf};
 use contents::parts::ClockPart;
 use contents::parts::Contents;
 use contents::parts::MaskPart;
@@ -25,14 +26,14 @@ fn signed16(x: u16) -> i16
     }
 }
 
-// The mask's 255 flags.
-fn read_flags(t: &[u8]) -> [bool; 255]
-    ensures { λ r. ⌜ r ≡ flagsAt (now (t .entry)) ⌝ }
+// The mask's 32 bytes.
+fn read_mask_bytes(t: &[u8]) -> [u8; 32]
+    ensures { λ r. ⌜ r ≡ rowAt (now (t .entry)) 7 32 ⌝ }
 {
-    let mut out = [false; 255];
+    let mut out = [0u8; 32];
     let mut i: usize = 0;
-    while i < 255 {
-        out[i] = lent::byte(t, 7 + i) == 1;
+    while i < 32 {
+        out[i] = lent::byte(t, 7 + i);
         i += 1;
     }
     out
@@ -56,7 +57,7 @@ fn read_clocks(t: &[u8]) -> [Clock; 23]
     let mut out = [blank_clock(); 23];
     let mut i: usize = 0;
     while i < 23 {
-        out[i] = read_clock(t, 271 + 5 * i);
+        out[i] = read_clock(t, 48 + 5 * i);
         i += 1;
     }
     out
@@ -92,7 +93,7 @@ fn read_orbits(t: &[u8]) -> [Orbit; 6]
     let mut out = [blank_orbit(); 6];
     let mut i: usize = 0;
     while i < 6 {
-        out[i] = read_orbit(t, 392 + 16 * i);
+        out[i] = read_orbit(t, 169 + 16 * i);
         i += 1;
     }
     out
@@ -105,12 +106,12 @@ fn read_mask(t: &[u8]) -> MaskPart
     let epoch = lent::four(t, 1);
     let ssr = lent::byte(t, 5);
     let iodp = lent::byte(t, 6);
-    let bits = read_flags(t);
+    let bytes = read_mask_bytes(t);
     MaskPart {
         epoch,
         ssr,
         iodp,
-        bits,
+        bytes,
     }
 }
 
@@ -118,11 +119,11 @@ fn read_mask(t: &[u8]) -> MaskPart
 fn read_clock_part(t: &[u8]) -> ClockPart
     ensures { λ r. ⌜ r ≡ flatClocksIn (now (t .entry)) ⌝ }
 {
-    let epoch = lent::four(t, 262);
-    let ssr = lent::byte(t, 266);
-    let iodp = lent::byte(t, 267);
-    let start = lent::two(t, 268);
-    let count = lent::byte(t, 270);
+    let epoch = lent::four(t, 39);
+    let ssr = lent::byte(t, 43);
+    let iodp = lent::byte(t, 44);
+    let start = lent::two(t, 45);
+    let count = lent::byte(t, 47);
     let clocks = read_clocks(t);
     ClockPart {
         epoch,
@@ -138,9 +139,9 @@ fn read_clock_part(t: &[u8]) -> ClockPart
 fn read_orbit_part(t: &[u8]) -> OrbitPart
     ensures { λ r. ⌜ r ≡ flatOrbitsIn (now (t .entry)) ⌝ }
 {
-    let epoch = lent::four(t, 386);
-    let ssr = lent::byte(t, 390);
-    let count = lent::byte(t, 391);
+    let epoch = lent::four(t, 163);
+    let ssr = lent::byte(t, 167);
+    let count = lent::byte(t, 168);
     let orbits = read_orbits(t);
     OrbitPart {
         epoch,

@@ -3,4 +3,4 @@ use Prim.Native.Nat.{ℕ}
 
 -- the bytes of a ledger
 abbrev pub size : ℕ
-size = 9440
+size = 9216

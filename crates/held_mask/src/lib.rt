@@ -1,9 +1,12 @@
 // The mask that a ledger keeps, as lent bytes: docs/FORM.md. Any bytes are such a form; bytes past the end are 0.
 ghost use mathlib.Core.Path.{_≡_};
-ghost use Prim.Native.Nat.{_+_, _≤_};
-ghost use lib.Dec.{eqb};
-ghost use lib.ListN.{getD, length, drop};
+ghost use mathlib.Core.Bool.{_&&_};
+ghost use Prim.Native.Nat.{_+_, _*_, _%_, _<_};
+ghost use lib.Dec.{eqb, ltb};
+ghost use lib.ListN.{drop};
 ghost use Rattle.bits.specs.Pick.{pick};
+ghost use Rattle.bits.specs.Table.{table};
+ghost use Rattle.contents.specs.Parts.{maskBitAt, bitsOf};
 ghost use Rattle.records.specs.Slots.{setCount, nthFrom, nthSet};
 ghost use Rattle.held_mask.specs.Mask.{bitsAt, bitAtSlot, maskAt, heldMask, sameBits, sameMask, putMask};
 use contents::parts::MaskPart;
@@ -39,67 +42,55 @@ pub fn has_bit(t: &[u8], slot: Slot) -> bool
     if s == 0 {
         return false;
     }
-    lent::byte(t, 3 + s as usize) == 1
+    bits::bit(t, 31 + s as usize) == 1
 }
 
-// How many bits of the mask are set, where bytes may be missing.
-fn count_some(t: &[u8]) -> u16
-    ensures { λ r. ⌜ r ≡ setCount (maskAt (now (t .entry)) .bits) ⌝ }
-{
-    let mut n: u16 = 0;
-    let mut i: usize = 255;
-    while 0 < i {
-        i -= 1;
-        if lent::byte(t, 4 + i) == 1 {
-            n += 1;
-        }
-    }
-    n
-}
-
-// How many bits of the mask are set, where no byte is missing: with no test in the loop it goes many bytes at once.
-fn count_all(t: &[u8]) -> u16
-    requires { ⌜ 259 ≤ length (now t) ⌝ }
-    ensures { λ r. ⌜ r ≡ setCount (maskAt (now (t .entry)) .bits) ⌝ }
-{
-    let mut n: u16 = 0;
-    let mut i: usize = 255;
-    while 0 < i {
-        i -= 1;
-        if t[4 + i] == 1 {
-            n += 1;
-        }
-    }
-    n
-}
-
-// How many bits of the mask are set.
+// How many bits of the mask are set, 51 of them a turn.
 pub fn set_count(t: &[u8]) -> u16
     ensures { λ r. ⌜ r ≡ setCount (maskAt (now (t .entry)) .bits) ⌝ }
 {
-    if t.len() < 259 {
-        count_some(t)
-    } else {
-        count_all(t)
+    let mut n: u32 = 0;
+    let mut i: usize = 0;
+    while i < 255 {
+        n += u64::count_ones(bits::get(t, 32 + i, 51));
+        i += 51;
     }
+    n as u16
 }
 
-// The slot of the n-th set bit after slot `from`, counting from 1. Slot 0 where there is none.
+// How many bits of the byte are set that begins with slot i + 1; 65535 where no whole byte does.
+fn ones_from(t: &[u8], i: usize) -> u16
+    requires { ⌜ i < 255 ⌝ }
+    ensures { λ r. ⌜ r ≡ pick (eqb (i % 8) 0 && ltb i 248) (setCount (table (maskBitAt (now (t .entry)) (8 * 4 + i)) 8)) 65535 ⌝ }
+{
+    if (i % 8 == 0) & (i < 248) {
+        return u8::count_ones(bits::get8(t, 32 + i, 8)) as u16;
+    }
+    65535
+}
+
+// The slot of the n-th set bit after slot `from`, counting from 1. Slot 0 where there is none. A byte with fewer set bits than are sought is passed whole.
 pub fn nth_after(t: &[u8], from: Slot, n: Place) -> Slot
     ensures { λ r. ⌜ r .0 ≡ nthFrom (drop (from .0) (maskAt (now (t .entry)) .bits)) (from .0 + 1) (n .0) ⌝ }
 {
     let mut left = n.0;
     let mut i = from.0 as usize;
     while i < 255 {
-        if lent::byte(t, 4 + i) == 1 {
-            if left == 1 {
-                return Slot((i + 1) as u8);
+        let c = ones_from(t, i);
+        if c < left {
+            left -= c;
+            i += 8;
+        } else {
+            if bits::bit(t, 32 + i) == 1 {
+                if left == 1 {
+                    return Slot((i + 1) as u8);
+                }
+                if left != 0 {
+                    left -= 1;
+                }
             }
-            if left != 0 {
-                left -= 1;
-            }
+            i += 1;
         }
-        i += 1;
     }
     Slot(0)
 }
@@ -121,16 +112,16 @@ pub fn resumed(from: Slot, n: Place, slot: Slot) -> Slot
     if slot.0 == 0 { Slot(255) } else { slot }
 }
 
-// Whether the bits held are these.
-fn same_bits(t: &[u8], bits: [bool; 255]) -> bool
-    ensures { λ r. ⌜ r ≡ sameBits (bitsAt (now (t .entry))) bits ⌝ }
+// Whether the bits held are those of these 32 bytes, 51 of them a turn. The 256th is not looked at.
+fn same_bits(t: &[u8], bytes: [u8; 32]) -> bool
+    ensures { λ r. ⌜ r ≡ sameBits (bitsAt (now (t .entry))) (bitsOf bytes) ⌝ }
 {
-    let mut k: usize = 0;
-    while k < 255 {
-        if (lent::byte(t, 4 + k) == 1) != bits[k] {
+    let mut i: usize = 0;
+    while i < 255 {
+        if bits::get(t, 32 + i, 51) != bits::get(&bytes, i, 51) {
             return false;
         }
-        k += 1;
+        i += 51;
     }
     true
 }
@@ -148,17 +139,16 @@ pub fn same_mask(t: &[u8], m: MaskPart) -> bool
     if mask_iodp(t) != m.iodp {
         return false;
     }
-    let bits = m.bits;
-    same_bits(t, bits)
+    let bytes = m.bytes;
+    same_bits(t, bytes)
 }
 
 // A mask is kept.
 pub fn put_mask(t: &mut [u8], m: MaskPart)
     ensures { λ r. ⌜ now (t .exit) ≡ putMask (now (t .entry)) m ⌝ }
 {
-    let bits = m.bits;
-    let flags = lent::flags_of(bits);
+    let bytes = m.bytes;
     let head = [1u8, m.ssr, m.iodp];
-    lent::store(t, 4, &flags);
+    lent::store(t, 4, &bytes);
     lent::store(t, 1, &head);
 }

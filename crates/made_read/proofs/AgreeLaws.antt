@@ -18,7 +18,7 @@ use Rattle.records.specs.Clock.{clockWidths, clockOf}
 use Rattle.layout.specs.Layout.{partWidths, layoutOf, orbitBits, orbitsFrom, endOf}
 use Rattle.layout.specs.declared.Layout.{Layout}
 use Rattle.layout.proofs.LayoutLaws.{pick-all, from-some}
-use Rattle.contents.specs.Parts.{clockNth, clocksAt, orbitNth, orbitsAt, maskBitsAt, noMask, maskIn, clocksIn, orbitsIn, layoutAt, contentsAt}
+use Rattle.contents.specs.Parts.{clockNth, clocksAt, orbitNth, orbitsAt, maskBytesAt, noMask, maskIn, clocksIn, orbitsIn, layoutAt, contentsAt}
 use Rattle.contents.specs.declared.parts.MaskPart.{MaskPart}
 use Rattle.contents.specs.declared.parts.ClockPart.{ClockPart}
 use Rattle.contents.specs.declared.parts.OrbitPart.{OrbitPart}
@@ -70,18 +70,22 @@ module _ (n : ℕ) (s : List ℕ) (a : ℕ) (t : List ℕ) (b : ℕ) (same : Agr
 
   -- ---- the parts of a layout that ends within the bits
   mask-same : (l : Layout) → l .head ≤ 14 → 296 ≤ n → maskIn s a l ≡ maskIn t b l
-  unfolding maskIn maskBitsAt
+  unfolding maskIn maskBytesAt
   mask-same l h r =
       ap (λ (p : MaskPart). pick (l .mask) p noMask)
-      (ap₂ (λ (f : List ℕ) (bs : List Bool). mask f bs)
+      (ap₂ (λ (f bs : List ℕ). mask f bs)
       (fields-at (a + l .head) (b + l .head) (l .head) (partWidths 4 0) refl refl (omega arith))
-      (table-ext _ _ 255
-      (λ i g.
-      ap (λ (x : ℕ). eqb x 1)
-      (bit-at (a + l .head + 27 + i) (b + l .head + 27 + i) (l .head + 27 + i) (omega arith) (omega arith) (omega arith)))))
+      (table-ext _ _ 32
+      (λ j g.
+      let x = a + l .head + 27 + 8 * j in
+      let y = b + l .head + 27 + 8 * j in
+      let k = l .head + 27 + 8 * j in
+      dite (decLt j 31)
+      (λ e. rw (lt-ltb j 31 e) (field-at x y k 8 (omega arith) (omega arith) (omega arith)))
+      (λ e. rw (le-ltb j 31 (omega arith)) (ap (λ (v : ℕ). 2 * v) (field-at x y k 7 (omega arith) (omega arith) (omega arith)))))))
     where
-      mask : List ℕ → List Bool → MaskPart
-      mask f bs = record { epoch = getD f 0 0; ssr = getD f 2 0; iodp = getD f 3 0; bits = bs }
+      mask : List ℕ → List ℕ → MaskPart
+      mask f bs = record { epoch = getD f 0 0; ssr = getD f 2 0; iodp = getD f 3 0; bytes = bs }
 
   clock-row : (slotted : Bool) (x y k count : ℕ) → x ≡ a + k → y ≡ b + k → k + pick slotted 27 18 * count ≤ n → (i : ℕ)
       → clockNth slotted s x count i ≡ clockNth slotted t y count i

@@ -99,7 +99,7 @@ fn take_piece(
     left: &[u8],
     e: Epochs,
     o: Options,
-    ledger: &mut [u8; 9440],
+    ledger: &mut [u8; 9216],
     counts: &mut [u64; 21],
 ) -> Taken {
     let step = log::take_next(ledger, left);
@@ -133,7 +133,7 @@ fn turn(
     room: &[u8],
     e: Epochs,
     o: Options,
-    ledger: &mut [u8; 9440],
+    ledger: &mut [u8; 9216],
     counts: &mut [u64; 21],
 ) -> After {
     let to = least(s.to, room.len());
@@ -165,7 +165,7 @@ fn all_pieces(
     s: Stream,
     room: &mut [u8],
     o: Options,
-    ledger: &mut [u8; 9440],
+    ledger: &mut [u8; 9216],
     counts: &mut [u64; 21],
 ) -> Night {
     let mut r = s;
@@ -191,7 +191,7 @@ pub(crate) fn take_logs(
     i: usize,
     count: usize,
     o: Options,
-    ledger: &mut [u8; 9440],
+    ledger: &mut [u8; 9216],
     counts: &mut [u64; 21],
 ) -> Night {
     let mut room = io::large_buffer();

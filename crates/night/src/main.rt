@@ -51,7 +51,7 @@ fn say_prn(i: usize) {
 
 // The logs from argument i on are taken into the ledger; then the list is written. The answer is the status.
 fn take_and_report(prn: u8, issues: [u16; 255], i: usize, count: usize, o: Options) -> u8 {
-    let mut ledger = [0u8; 9440];
+    let mut ledger = [0u8; 9216];
     let v = ledger::open::open(&mut ledger, prn);
     let Verdict::Taken = v else {
         return 1;

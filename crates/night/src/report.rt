@@ -59,7 +59,26 @@ fn put_refusals(room: &mut [u8], at: usize, counts: &[u64; 21]) -> usize
     n
 }
 
-// The line of the mask in force.
+// Bits of satellites, by how many are set and how many of them are reserved.
+fn assigned_of(set: u16, reserved: u16) -> u64 {
+    if reserved < set {
+        (set - reserved) as u64
+    } else {
+        0
+    }
+}
+
+// The line of the reserved bits of the mask, if any is set.
+fn put_reserved(room: &mut [u8], at: usize, reserved: u16) -> usize
+    ensures { λ r. ⌜ Counts r (now (room .exit)) ⌝ }
+{
+    if reserved == 0 {
+        return cursor_in(room, at);
+    }
+    put_count(room, at, b"reserved", reserved as u64)
+}
+
+// The line of the mask in force, and how many reserved bits it has.
 fn put_mask(room: &mut [u8], at: usize, ledger: &[u8]) -> usize
     ensures { λ r. ⌜ Counts r (now (room .exit)) ⌝ }
 {
@@ -69,8 +88,15 @@ fn put_mask(room: &mut [u8], at: usize, ledger: &[u8]) -> usize
     let a = put_bytes(room, at, b"mask");
     let b = put_field(room, a, b"ssr", held_mask::mask_ssr(ledger) as u64);
     let c = put_field(room, b, b"iodp", held_mask::mask_iodp(ledger) as u64);
-    let d = put_field(room, c, b"satellites", held_mask::set_count(ledger) as u64);
-    put_byte(room, d, 10)
+    let reserved = crate::rows::reserved_count(ledger);
+    let d = put_field(
+        room,
+        c,
+        b"satellites",
+        assigned_of(held_mask::set_count(ledger), reserved),
+    );
+    let e = put_byte(room, d, 10);
+    put_reserved(room, e, reserved)
 }
 
 // The first and the last epoch.
@@ -175,7 +201,7 @@ fn write_csv(ledger: &[u8], issues: &[u16; 255], f: Found, o: Options) -> u8 {
 // The whole report, in one piece. The answer is the status.
 pub(crate) fn report(
     prn: u8,
-    ledger: &[u8; 9440],
+    ledger: &[u8; 9216],
     issues: &[u16; 255],
     counts: &[u64; 21],
     e: Epochs,

@@ -168,11 +168,24 @@ fn is_absent(ledger: &[u8], issue: u16, slot: u8) -> bool {
     false
 }
 
+// How many bits the mask in force has for reserved slots: 175 to 255.
+pub(crate) fn reserved_count(ledger: &[u8]) -> u16 {
+    let mut n: u16 = 0;
+    let mut slot: u8 = 174;
+    while slot < 255 {
+        slot += 1;
+        if held_mask::has_bit(ledger, Slot(slot)) {
+            n = n % 1000 + 1;
+        }
+    }
+    n
+}
+
 // How many satellites of the mask in force have no row.
 pub(crate) fn absent_count(ledger: &[u8], issues: &[u16; 255]) -> u16 {
     let mut n: u16 = 0;
     let mut slot: u8 = 0;
-    while slot < 255 {
+    while slot < 174 {
         slot += 1;
         if is_absent(ledger, issue_of(issues, slot), slot) {
             n = n % 1000 + 1;
@@ -227,7 +240,7 @@ pub(crate) fn put_absent(room: &mut [u8], at: usize, ledger: &[u8], issues: &[u1
 {
     let mut n = put_bytes(room, at, b"slot sat why\n");
     let mut slot: u8 = 0;
-    while slot < 255 {
+    while slot < 174 {
         slot += 1;
         n = put_slot_absent(room, n, ledger, issue_of(issues, slot), slot);
     }

@@ -49,13 +49,13 @@ pub(crate) fn mask_part(s: &[u8], p: Cursor) -> MaskLine {
     let c = field(s, pb, IODP);
     let pc = c.cursor;
     let d = read_slots(s, key(s, pc, SLOTS));
-    let bits = d.bits;
+    let bytes = d.bytes;
     let cursor = d.cursor;
     let part = MaskPart {
         epoch: a.value,
         ssr: byte_of(b.value),
         iodp: byte_of(c.value),
-        bits,
+        bytes,
     };
     MaskLine { cursor, part }
 }

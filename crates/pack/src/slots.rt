@@ -11,7 +11,7 @@ use console::words::number_of;
 // The slots of a mask, and the cursor after them.
 pub(crate) struct SlotList {
     pub cursor: Cursor,
-    pub bits: [bool; 255],
+    pub bytes: [u8; 32],
 }
 
 // The next slot of a mask; 0 at the end of the line or where it is not above the last.
@@ -44,9 +44,18 @@ fn slot_word(s: &[u8], p: Cursor, last: u32) -> Got {
     Got { cursor, value: v }
 }
 
+// The mask with the bit of a slot set too.
+fn with_slot(bytes: [u8; 32], slot: u32) -> [u8; 32] {
+    let mut out = bytes;
+    if slot != 0 {
+        bits::put(&mut out, slot as usize - 1, 1, 1);
+    }
+    out
+}
+
 // The slots of a mask.
 pub(crate) fn read_slots(s: &[u8], from: Cursor) -> SlotList {
-    let mut bits = [false; 255];
+    let mut bytes = [0u8; 32];
     let mut cursor = from;
     let mut last: u32 = 0;
     let mut i: u32 = 0;
@@ -55,17 +64,20 @@ pub(crate) fn read_slots(s: &[u8], from: Cursor) -> SlotList {
         let next = g.cursor;
         let v = g.value;
         if v == 0 {
-            return SlotList { cursor: next, bits };
+            return SlotList {
+                cursor: next,
+                bytes,
+            };
         }
         if v > 255 {
             let bad = failed(cursor, SLOT);
-            return SlotList { cursor: bad, bits };
+            return SlotList { cursor: bad, bytes };
         }
-        let k = v as usize - 1;
-        bits[k] = true;
+        let more = with_slot(bytes, v);
+        bytes = more;
         cursor = next;
         last = v;
         i += 1;
     }
-    SlotList { cursor, bits }
+    SlotList { cursor, bytes }
 }

@@ -38,10 +38,10 @@ use verdict::number_of;
 use writing::write;
 
 // The bytes of a ledger.
-const LEDGER_SIZE: usize = 9440;
+const LEDGER_SIZE: usize = 9216;
 
 // The bytes of contents.
-const CONTENTS_SIZE: usize = 488;
+const CONTENTS_SIZE: usize = 265;
 
 // The bytes of a row.
 const ROW_SIZE: usize = 27;

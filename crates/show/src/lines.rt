@@ -41,14 +41,19 @@ fn put_slot(room: &mut [u8], at: usize, slot: usize, set: bool) -> usize
     cursor_in(room, at)
 }
 
+// Whether bit i of a mask's 32 bytes is set.
+fn is_set(bytes: [u8; 32], i: usize) -> bool {
+    bits::bit(&bytes, i) == 1
+}
+
 // The slots of the mask bits that are set.
-fn put_slots(room: &mut [u8], at: usize, bits: [bool; 255]) -> usize
+fn put_slots(room: &mut [u8], at: usize, bytes: [u8; 32]) -> usize
     ensures { λ r. ⌜ Counts r (now (room .exit)) ⌝ }
 {
     let mut n = cursor_in(room, at);
     let mut i: usize = 0;
     while i < 255 {
-        n = put_slot(room, n, i + 1, bits[i]);
+        n = put_slot(room, n, i + 1, is_set(bytes, i));
         i += 1;
     }
     n
@@ -58,12 +63,12 @@ fn put_slots(room: &mut [u8], at: usize, bits: [bool; 255]) -> usize
 fn put_mask(room: &mut [u8], at: usize, m: MaskPart) -> usize
     ensures { λ r. ⌜ Counts r (now (room .exit)) ⌝ }
 {
-    let bits = m.bits;
+    let bytes = m.bytes;
     let a = put_field(room, at, b"epoch", m.epoch as u64);
     let b = put_field(room, a, b"ssr", m.ssr as u64);
     let c = put_field(room, b, b"iodp", m.iodp as u64);
     let d = put_bytes(room, c, b" slots");
-    put_slots(room, d, bits)
+    put_slots(room, d, bytes)
 }
 
 // Slot, IODN and IOD Corr of an orbit record.

@@ -2,11 +2,12 @@
 use Prim.Native.Nat.{ℕ, zero, suc, _*_, _/_, _%_, _^_}
 use mathlib.Core.Bool.{Bool, true, _&&_}
 use mathlib.Core.List.{List, [], _∷_, _++_}
-use lib.Dec.{ltb}
+use lib.Dec.{eqb, ltb}
 use lib.IntN.{ℤ}
 use lib.ListN.{getD, take, replicate}
 use lib.Signed.{mag}
 use Rattle.bits.specs.Pick.{pick}
+use Rattle.bits.specs.Bits.{bitAt}
 use Rattle.records.specs.Signed.{rawHalf}
 use Rattle.records.specs.Ura.{codeOf}
 use Rattle.records.specs.Orbit.{blankOrbit, orbitWidths}
@@ -65,7 +66,7 @@ unfoldable pub allFit : List ℕ → (ℕ → List ℕ) → ℕ → Bool
 allFit ws f zero = true
 allFit ws f (suc n) = allFit ws f n && fits ws (f n)
 
--- 01, 16: every field of canonical contents is within its width
+-- 01, 16: every field of canonical contents is within its width; 02, CR 13: the last bit of the mask's 32 bytes is 0
 unfoldable pub fitsAll : Contents → Bool
 fitsAll c =
     fits (partWidths 4 0) (headVals (c .mask .epoch) (c .mask .ssr) (c .mask .iodp) 0)
@@ -73,3 +74,4 @@ fitsAll c =
     && fits (partWidths 0 0) (headVals (c .orbit .epoch) (c .orbit .ssr) 0 0)
     && allFit (clockWidths (layoutFor c .slotted)) (clockRow (c .clock .clocks)) 23
     && allFit orbitWidths (orbitRow (c .orbit .orbits)) 6
+    && eqb (bitAt (c .mask .bytes) 255) 0

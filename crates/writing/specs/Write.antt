@@ -1,11 +1,11 @@
 -- 01, Message fields, in order: what writing leaves in the room. Reserved bits, blank records, absent parts and the last two bits are zero.
 use Prim.Native.Nat.{ℕ, _+_}
-use mathlib.Core.Bool.{Bool, false, not}
+use mathlib.Core.Bool.{not}
 use mathlib.Core.List.{List, [], _∷_}
 use lib.Dec.{eqb}
-use lib.ListN.{getD, length, replicate}
+use lib.ListN.{length, replicate}
 use Rattle.bits.specs.Pick.{pick}
-use Rattle.bits.specs.Bits.{putAt, putsAt, putRows}
+use Rattle.bits.specs.Bits.{bitAt, putAt, putsAt, putRows}
 use Rattle.bits.specs.Some.{first}
 use Rattle.check24.specs.Check.{checkOf}
 use Rattle.records.specs.Orbit.{orbitWidths}
@@ -32,15 +32,15 @@ headPut s kind l = putsAt s 0 (headWidths l) (kind ∷ l .clocks ∷ l .orbits �
 abbrev pub maskWidths : List ℕ
 maskWidths = 1 ∷ []
 
--- the value of bit i of the mask
-abbrev pub maskRow : List Bool → ℕ → List ℕ
-maskRow bits i = pick (getD bits i false) 1 0 ∷ []
+-- 02, CR 13: the bit of slot i + 1 in the mask's 32 bytes
+abbrev pub maskRow : List ℕ → ℕ → List ℕ
+maskRow bytes i = bitAt bytes i ∷ []
 
 -- 01, type 1: the mask part put after the type
 unfoldable pub maskPut : List ℕ → Layout → MaskPart → List ℕ
 maskPut s l m =
     pick (l .mask)
-    (putRows (putsAt s (l .head) (partWidths 4 0) (headVals (m .epoch) (m .ssr) (m .iodp) 0)) (l .head + 27) maskWidths (maskRow (m .bits)) 255)
+    (putRows (putsAt s (l .head) (partWidths 4 0) (headVals (m .epoch) (m .ssr) (m .iodp) 0)) (l .head + 27) maskWidths (maskRow (m .bytes)) 255)
     s
 
 -- 01, types 4, 6 and 7: the clock part put after the type and the counts

@@ -4,7 +4,7 @@ ghost use Prim.Native.Nat.{_+_, _^_, _<_, _≤_};
 ghost use lib.Dec.{ltb};
 ghost use lib.ListN.{length};
 ghost use lib.Signed.{mag};
-ghost use Rattle.bits.specs.Bits.{putsAt, putRows};
+ghost use Rattle.bits.specs.Bits.{bitAt, putsAt, putRows};
 ghost use Rattle.records.specs.Orbit.{orbitWidths};
 ghost use Rattle.records.specs.Clock.{clockWidths};
 ghost use Rattle.layout.specs.Layout.{partWidths};
@@ -187,6 +187,7 @@ fn all_fields_fit(c: Contents) -> bool
     let k = c.clock;
     let o = c.orbit;
     let l = layout_of(c.kind, k.count, o.count);
+    let bytes = m.bytes;
     let ks = k.clocks;
     let os = o.orbits;
     let a = head_fits(4, 0, m.epoch, m.ssr, m.iodp, 0);
@@ -194,7 +195,8 @@ fn all_fields_fit(c: Contents) -> bool
     let d = head_fits(0, 0, o.epoch, o.ssr, 0, 0);
     let e = clocks_fit(l.slotted, ks);
     let f = orbits_fit(os);
-    a & b & d & e & f
+    let g = mask_bit(bytes, 255) == 0;
+    a & b & d & e & f & g
 }
 
 // The lowest number of 8 to 12 and 16 that applies to canonical contents; 0 if none does.
@@ -218,15 +220,22 @@ fn put_head(room: &mut [u8], kind: u8, l: Layout)
     bits::puts(room, 0, ws, vs);
 }
 
+// Bit i of a mask's 32 bytes, from 0.
+fn mask_bit(bytes: [u8; 32], i: u32) -> u64
+    ensures { λ r. ⌜ r ≡ bitAt bytes i ⌝ }
+{
+    bits::bit(&bytes, i as usize) as u64
+}
+
 // The mask's bits are put from bit at on.
-fn put_bits(room: &mut [u8], at: u32, bits: [bool; 255])
+fn put_mask_bits(room: &mut [u8], at: u32, bytes: [u8; 32])
     requires { ⌜ at < 100000 ⌝ }
-    ensures { λ r. ⌜ now (room .exit) ≡ putRows (now (room .entry)) at maskWidths (maskRow bits) 255 ⌝ }
+    ensures { λ r. ⌜ now (room .exit) ≡ putRows (now (room .entry)) at maskWidths (maskRow bytes) 255 ⌝ }
 {
     let mut i: u32 = 0;
     while i < 255 {
-        let b = bits[i as usize];
-        bits::put(room, (at + i) as usize, 1, lent::flag(b) as u64);
+        let b = mask_bit(bytes, i);
+        bits::put(room, (at + i) as usize, 1, b);
         i += 1;
     }
 }
@@ -249,9 +258,9 @@ fn put_mask(room: &mut [u8], l: Layout, m: MaskPart)
 {
     if l.mask {
         let at = l.head as u32;
-        let bits = m.bits;
+        let bytes = m.bytes;
         put_part_head(room, at, 4, 0, m.epoch, m.ssr, m.iodp, 0);
-        put_bits(room, at + 27, bits);
+        put_mask_bits(room, at + 27, bytes);
     }
 }
 

@@ -5,11 +5,10 @@ use mathlib.Core.Bool.{true, false, not, _||_}
 use mathlib.Core.List.{List}
 use Prim.Native.Nat.{ℕ, _+_, _-_, _≤_, _<_}
 use lib.Dec.{eqb, ltb}
-use lib.ListN.{getD, length, drop, length-drop, List·getD-eq-default}
-use lib.Seq.{getD-drop}
+use lib.ListN.{getD, length}
 use native.Mathlib.Decide.{ℕ-discrete, decLt}
 use native.Mathlib.Omega.{arith}
-use borrow.Author.Tests.{eq-eqb, ne-eqb, lt-ltb, le-ltb, ltb-false, not-false}
+use borrow.Author.Tests.{eqb-true, eq-eqb, ne-eqb, lt-ltb, le-ltb, ltb-false, not-false}
 use Rattle.bits.specs.Some.{anyOf}
 use Rattle.records.specs.Orbit.{blankOrbit, orbitWidths}
 use Rattle.records.specs.Clock.{blankClock, clockWidths}
@@ -18,11 +17,11 @@ use Rattle.judge.specs.Judge.{clockSlots, orbitSlots, isKind, tooLong, late, is
 use Rattle.contents.specs.declared.parts.Contents.{Contents}
 use Rattle.canonical.specs.Canon.{layoutFor, canon}
 use Rattle.writing.specs.Fits.{clockRow, orbitRow, fitsAll}
-use Rattle.written_back.specs.Limits.{Once, Limits}
+use Rattle.written_back.specs.Limits.{Octets, Once, Limits}
 use Rattle.writing.specs.Write.{contentRefusal, writeRefusal}
 use Rattle.writing.proofs.FitLaws.{all-fit}
 use Rattle.written_back.proofs.WithinLaws.{fits-within, within-fits, all-fits, fit-parts, parts-fit}
-use Rattle.written_back.proofs.SearchLaws.{or-left, or-right, eqb-no, none-found, found-none, low-found, found-low, single-found, found-single}
+use Rattle.written_back.proofs.SearchLaws.{or-left, or-right, eqb-no, low-found, found-low, single-found, found-single}
 use Rattle.writing.proofs.TakenLaws.{first-not, content-taken}
 use Rattle.written_back.proofs.ValueLimits.{slot-low, clock-within, within-clock, orbit-within, within-orbit, head-within, within-head}
 use Rattle.writing.proofs.WriteLaws.{refuses-room, refuses-content}
@@ -57,6 +56,7 @@ limits-fit c h =
       within-fits (partWidths 0 0) _ (head-within 0 0 _ _ _ _ (h .orbit)),
       all-fits (clockWidths (l .slotted)) (clockRow (c .clock .clocks)) 23 (λ i b. clock-within (l .slotted) _ (h .clocks i b)),
       all-fits orbitWidths (orbitRow (c .orbit .orbits)) 6 (λ i b. orbit-within _ (h .orbits i b)),
+      eq-eqb _ 0 (h .last),
     )
 
 module _ (c : Contents) (h : Limits c) where
@@ -142,8 +142,8 @@ judged-all c e =
     let n12 = first-not 12 _ (twice (c .clock) (c .orbit)) (λ z. omega arith) (n11 .1) in
     (not-false (isKind (c .kind)) (n8 .0), ltb-false 462 (endOf (layoutFor c)) (n9 .0), n10 .0, n11 .0, n12 .0)
 
-content-limits : (c : Contents) → length (c .mask .bits) ≡ 255 → contentRefusal c ≡ 0 → Limits c
-content-limits c long e =
+content-limits : (c : Contents) → Octets 32 (c .mask .bytes) → contentRefusal c ≡ 0 → Limits c
+content-limits c octets e =
     let l = layoutFor c in
     let k = content-taken c e in
     let j = judged-all c (k .0) in
@@ -168,9 +168,10 @@ content-limits c long e =
       orbits = λ i b. within-orbit _ (found-orbits c (or-right hk ho high) i b) (fits-within orbitWidths _ tt (all-fit orbitWidths (orbitRow (c .orbit .orbits)) 6 (f .4) i b));
       clocks-once = once-clocks c (or-left ak ao (j .4));
       orbits-once = once-orbits c (or-right ak ao (j .4));
-      bits = long;
+      bytes = octets;
+      last = eqb-true _ 0 (f .5);
     }
 
 -- what is taken is within its limits
-pub taken-limits : (room : List ℕ) (c : Contents) → length (canon c .mask .bits) ≡ 255 → writeRefusal room c ≡ 0 → Limits (canon c)
-taken-limits room c long e = content-limits (canon c) long (write-taken room c e .1)
+pub taken-limits : (room : List ℕ) (c : Contents) → Octets 32 (canon c .mask .bytes) → writeRefusal room c ≡ 0 → Limits (canon c)
+taken-limits room c octets e = content-limits (canon c) octets (write-taken room c e .1)

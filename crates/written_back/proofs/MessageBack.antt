@@ -8,7 +8,7 @@ use lib.ListN.{getD, length}
 use native.Mathlib.Nat.{zero-add}
 use native.Mathlib.Decide.{ℕ-discrete}
 use native.Mathlib.Omega.{arith}
-use borrow.Author.Tests.{eq-eqb, ne-eqb}
+use borrow.Author.Tests.{eqb-true, eq-eqb, ne-eqb}
 use Rattle.bits.specs.Pick.{pick}
 use Rattle.bits.specs.Bits.{fieldAt, putAt, fieldsAt, putsAt, Within}
 use Rattle.bits.proofs.RowLaws.{fields-puts}
@@ -26,12 +26,13 @@ use Rattle.writing.specs.Write.{headPut, maskPut, clocksPut, orbitsPut, partsPu
 use Rattle.writing.proofs.FitLaws.{not-so, all-fit}
 use Rattle.written_back.proofs.WithinLaws.{Parts, fit-parts, fits-within}
 use Rattle.writing.proofs.TakenLaws.{judged, few}
+use Rattle.written_back.specs.Limits.{Octets}
 use Rattle.written_back.proofs.BesideLaws.{Beside, beside-then, beside-wide, beside-fields}
 use Rattle.written_back.proofs.StepsBeside.{head-beside, mask-beside, clocks-beside, orbits-beside}
 use Rattle.written_back.proofs.CheckBack.{check-beside}
 use Rattle.written_back.proofs.PartsBack.{mask-back, clocks-back, orbits-back}
 
-module _ (s : List ℕ) (c : Contents) (len : length s ≡ 61) (bits : length (c .mask .bits) ≡ 255) (ok : refusalOf c ≡ 0) (fit : fitsAll c ≡ true) where
+module _ (s : List ℕ) (c : Contents) (len : length s ≡ 61) (octets : Octets 32 (c .mask .bytes)) (ok : refusalOf c ≡ 0) (fit : fitsAll c ≡ true) where
   l : Layout
   l = layoutFor c
 
@@ -180,7 +181,7 @@ module _ (s : List ℕ) (c : Contents) (len : length s ≡ 61) (bits : length (c
       (λ h.
       let a = l-alone h in
       rw (h, zero-add (l .head))
-      (mask-back m₁ t 486 l (c .mask) h bits (omega (arith, step₁ .long)) (kept-mask h) (fits-within (partWidths 4 0) _ tt (tests .0))))
+      (mask-back m₁ t 486 l (c .mask) h octets (eqb-true _ 0 (tests .5)) (omega (arith, step₁ .long)) (kept-mask h) (fits-within (partWidths 4 0) _ tt (tests .0))))
       (λ h. rw (not-so (l .mask) h))
 
   clocks-none : l .clocks ≡ 0 → clocksIn t 0 l ≡ canonClocks l (c .clock)
@@ -215,11 +216,11 @@ module _ (s : List ℕ) (c : Contents) (len : length s ≡ 61) (bits : length (c
   message-back = rw (layout-back, kind-back, mask-in-back, clocks-in-back, orbits-in-back)
 
 -- reading what was written gives the contents in canonical form
-pub contents-back : (s : List ℕ) (c : Contents) → length s ≡ 61 → length (c .mask .bits) ≡ 255 → refusalOf c ≡ 0 → fitsAll c ≡ true → contentsAt (checkPut (partsPut s c (layoutFor c))) 0 ≡ canon c
+pub contents-back : (s : List ℕ) (c : Contents) → length s ≡ 61 → Octets 32 (c .mask .bytes) → refusalOf c ≡ 0 → fitsAll c ≡ true → contentsAt (checkPut (partsPut s c (layoutFor c))) 0 ≡ canon c
 unfolding partsPut l m₁ m₂ m₃ m₄ t
-contents-back s c len bits ok fit = message-back s c len bits ok fit
+contents-back s c len octets ok fit = message-back s c len octets ok fit
 
 -- and nothing from bit 462 on is touched by the parts
-pub parts-beside : (s : List ℕ) (c : Contents) → length s ≡ 61 → length (c .mask .bits) ≡ 255 → refusalOf c ≡ 0 → fitsAll c ≡ true → Beside 0 462 s (partsPut s c (layoutFor c))
+pub parts-beside : (s : List ℕ) (c : Contents) → length s ≡ 61 → Octets 32 (c .mask .bytes) → refusalOf c ≡ 0 → fitsAll c ≡ true → Beside 0 462 s (partsPut s c (layoutFor c))
 unfolding partsPut l m₁ m₂ m₃ m₄
-parts-beside s c len bits ok fit = made s c len bits ok fit
+parts-beside s c len octets ok fit = made s c len octets ok fit

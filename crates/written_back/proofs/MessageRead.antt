@@ -9,9 +9,9 @@ use lib.ListN.{length, replicate, length-replicate}
 use native.Mathlib.Omega.{arith}
 use borrow.Author.Tests.{eq-eqb}
 use Rattle.bits.specs.Bits.{bitAt, fieldAt}
-use Rattle.bits.proofs.TableLaws.{length-table}
 use Rattle.check24.specs.Check.{checkOk}
-use Rattle.contents.specs.Parts.{noMask, maskBitAt, maskBitsAt, maskPartAt, maskIn, layoutAt, contentsAt}
+use Rattle.contents.specs.Parts.{noMask, maskPartAt, maskIn, layoutAt, contentsAt}
+use Rattle.contents.proofs.MaskLaws.{bytes-long, bytes-small, none-long, none-small}
 use Rattle.judge.specs.Judge.{refusalOf}
 use Rattle.verdict.specs.Verdict.{says, numberIn}
 use Rattle.message.specs.Read.{answer, readMessage}
@@ -24,6 +24,7 @@ use Rattle.canonical.specs.Canon.{layoutFor, canon}
 use Rattle.canonical.proofs.CanonLaws.{canon-twice}
 use Rattle.writing.specs.Fits.{fitsAll}
 use Rattle.writing.specs.Write.{partsPut, checkPut, messageOf, contentRefusal}
+use Rattle.written_back.specs.Limits.{Octets}
 use Rattle.written_back.proofs.BesideLaws.{Beside, beside-field}
 use Rattle.writing.proofs.TakenLaws.{first-not, content-taken}
 use Rattle.written_back.proofs.CheckBack.{check-beside, check-right}
@@ -42,17 +43,21 @@ pub message-taken : (t : List ℕ) (c : Contents) → Message t c → readMessag
 unfolding readMessage
 message-taken t c r = rw (eq-eqb _ _ (r .long), eq-eqb _ _ (r .last), r .check, r .contents, eq-eqb _ _ (r .judged))
 
--- the canonical form has a mask of 255 bits
-pub mask-long : (c : Contents) → length (c .mask .bits) ≡ 255 → length (canon c .mask .bits) ≡ 255
-unfolding canon noMask
-mask-long c e = pick-all (λ (m : MaskPart). length (m .bits) ≡ 255) (layoutFor c .mask) (c .mask) noMask e (length-table (λ (i : ℕ). false) 255)
+-- an absent mask has 32 bytes
+none-octets : Octets 32 (noMask .bytes)
+none-octets = record { long = none-long; each = none-small }
+
+-- the canonical form has a mask of 32 bytes
+pub mask-octets : (c : Contents) → Octets 32 (c .mask .bytes) → Octets 32 (canon c .mask .bytes)
+unfolding canon
+mask-octets c e = pick-all (λ (m : MaskPart). Octets 32 (m .bytes)) (layoutFor c .mask) (c .mask) noMask e none-octets
 
 -- canonical contents that no refusal applies to, put into a room whose last two bits are zero
-put-message : (s : List ℕ) (c : Contents) → length s ≡ 61 → fieldAt s 486 2 ≡ 0 → length (canon c .mask .bits) ≡ 255 → refusalOf (canon c) ≡ 0 → fitsAll (canon c) ≡ true → Message (checkPut (partsPut s (canon c) (layoutFor (canon c)))) (canon c)
-put-message s c len last long ok fit =
+put-message : (s : List ℕ) (c : Contents) → length s ≡ 61 → fieldAt s 486 2 ≡ 0 → Octets 32 (canon c .mask .bytes) → refusalOf (canon c) ≡ 0 → fitsAll (canon c) ≡ true → Message (checkPut (partsPut s (canon c) (layoutFor (canon c)))) (canon c)
+put-message s c len last octets ok fit =
     let d = canon c in
     let p = partsPut s d (layoutFor d) in
-    let b : Beside 0 462 s p = parts-beside s d len long ok fit in
+    let b : Beside 0 462 s p = parts-beside s d len octets ok fit in
     let k : Beside 462 486 p (checkPut p) = check-beside p in
     record {
       long = k .long ∙ b .long ∙ len;
@@ -61,7 +66,7 @@ put-message s c len last long ok fit =
           ∙ beside-field 0 462 s p 486 2 b (inr (omega arith))
           ∙ last;
       check = check-right p (b .long ∙ len);
-      contents = contents-back s d len long ok fit ∙ canon-twice c;
+      contents = contents-back s d len octets ok fit ∙ canon-twice c;
       judged = ok;
     }
 
@@ -69,20 +74,21 @@ zeros-last : fieldAt (replicate 61 0) 486 2 ≡ 0
 unfolding fieldAt bitAt
 zeros-last = refl
 
-pub message-read : (c : Contents) → length (canon c .mask .bits) ≡ 255 → contentRefusal (canon c) ≡ 0 → Message (messageOf (canon c)) (canon c)
+pub message-read : (c : Contents) → Octets 32 (canon c .mask .bytes) → contentRefusal (canon c) ≡ 0 → Message (messageOf (canon c)) (canon c)
 unfolding messageOf
-message-read c bits e =
+message-read c octets e =
     let h = content-taken (canon c) e in
-    put-message (replicate 61 0) c (length-replicate {A = ℕ} 61 0) zeros-last bits (h .0) (h .1)
+    put-message (replicate 61 0) c (length-replicate {A = ℕ} 61 0) zeros-last octets (h .0) (h .1)
 
 -- ---- what was read
-pub read-mask-long : (s : List ℕ) → length (contentsAt s 0 .mask .bits) ≡ 255
-unfolding contentsAt maskIn noMask maskBitsAt
-read-mask-long s =
+pub read-octets : (s : List ℕ) → Octets 32 (contentsAt s 0 .mask .bytes)
+unfolding contentsAt maskIn
+read-octets s =
     let l = layoutAt s 0 in
-    pick-all (λ (m : MaskPart). length (m .bits) ≡ 255) (l .mask) (maskPartAt s (0 + l .head)) noMask
-    (length-table (maskBitAt s (0 + l .head + 27)) 255)
-    (length-table (λ (i : ℕ). false) 255)
+    let a = 0 + l .head + 27 in
+    pick-all (λ (m : MaskPart). Octets 32 (m .bytes)) (l .mask) (maskPartAt s (0 + l .head)) noMask
+    (record { long = bytes-long s a; each = bytes-small s a })
+    none-octets
 
 -- an answer that takes has the number 0
 answer-taken : (n : ℕ) (c : Contents) → answer n c .said ≡ says Taken → n ≡ 0

@@ -1,31 +1,33 @@
 -- Each part is read back as it was put, whatever is put after it.
 use mathlib.Core.Path.{_≡_, refl, sym, ap, _∙_, subst}
 use mathlib.Core.Logic.{dite, _≢_}
-use mathlib.Core.Bool.{Bool, true, false}
+use mathlib.Core.Bool.{Bool, true}
 use mathlib.Core.List.{List}
 use Prim.Native.Nat.{ℕ, suc, _+_, _*_, _^_, _≤_, _<_}
-use lib.Dec.{eqb}
 use lib.ListN.{getD, length}
-use native.Mathlib.Nat.{mul-suc, mul-le-mul-left, one-mul, add-zero}
+use native.Mathlib.Nat.{mul-suc, mul-le-mul-left, one-mul}
 use native.Mathlib.Decide.{decLt}
 use native.Mathlib.Omega.{arith}
 use borrow.Author.Tests.{ne-eqb, lt-ltb, le-ltb}
 use Rattle.bits.specs.Pick.{pick}
 use Rattle.bits.specs.Bits.{bitAt, fieldAt, fieldsAt, putsAt, putRows, total, Within}
 use Rattle.bits.proofs.RowLaws.{fields-puts, rows-back, length-puts}
+use Rattle.bits.proofs.FieldLaws.{bit-lt}
 use Rattle.bits.proofs.TableLaws.{table-ext, table-same}
 use Rattle.records.specs.Orbit.{blankOrbit, orbitWidths, orbitOf}
 use Rattle.records.specs.Clock.{blankClock, clockWidths, clockOf}
 use Rattle.layout.specs.Layout.{partWidths, orbitsFrom, endOf}
-use Rattle.contents.specs.Parts.{maskBitAt, maskBitsAt, maskPartAt, clockNth, clocksAt, clockPartAt, orbitNth, orbitsAt, orbitPartAt}
+use Rattle.contents.specs.Parts.{maskBytesAt, maskPartAt, clockNth, clocksAt, clockPartAt, orbitNth, orbitsAt, orbitPartAt}
 use Rattle.layout.specs.declared.Layout.{Layout}
 use Rattle.contents.specs.declared.parts.MaskPart.{MaskPart}
 use Rattle.contents.specs.declared.parts.ClockPart.{ClockPart}
 use Rattle.contents.specs.declared.parts.OrbitPart.{OrbitPart}
+use Rattle.contents.proofs.MaskLaws.{one-bit, bytes-back}
 use Rattle.layout.proofs.LayoutLaws.{from-some, clock-total}
 use Rattle.canonical.specs.Canon.{canonClockNth, canonClockRows, canonClocks, canonOrbitNth, canonOrbitRows, canonOrbits}
 use Rattle.writing.specs.Fits.{headVals, clockRow, orbitRow}
 use Rattle.writing.specs.Write.{maskWidths, maskRow, maskPut, clocksPut, orbitsPut}
+use Rattle.written_back.specs.Limits.{Octets}
 use Rattle.written_back.proofs.BesideLaws.{Beside, rows-beside, beside-fields}
 use Rattle.written_back.proofs.RecordsBack.{clock-back, orbit-back, none-back}
 use Rattle.writing.proofs.TakenLaws.{end-some}
@@ -153,44 +155,30 @@ module _ (s t : List ℕ) (hi : ℕ) (l : Layout) (o : OrbitPart) (ne : l .orbit
       rw (ne-eqb _ _ ne, f 0, f 2, orbit-rows)
 
 -- ---- the mask
-bit-of : (b : Bool) → eqb (pick b 1 0) 1 ≡ b
-bit-of true = refl
-bit-of false = refl
-
-bit-within : (b : Bool) → pick b 1 0 < 2 ^ 1
-bit-within true = omega arith
-bit-within false = omega arith
-
--- a field of one bit is the bit
-pub one-bit : (s : List ℕ) (i : ℕ) → fieldAt s i 1 ≡ bitAt s i
-unfolding fieldAt
-one-bit s i = rw (add-zero i) (omega arith)
-
-module _ (s t : List ℕ) (hi : ℕ) (l : Layout) (m : MaskPart) (has : l .mask ≡ true) (long : length (m .bits) ≡ 255) (room : l .head + 27 + 255 ≤ 8 * length s) (kept : Beside (l .head + 27 + 255) hi (maskPut s l m) t) (fh : Within (partWidths 4 0) (headVals (m .epoch) (m .ssr) (m .iodp) 0)) where
+module _ (s t : List ℕ) (hi : ℕ) (l : Layout) (m : MaskPart) (has : l .mask ≡ true) (octets : Octets 32 (m .bytes)) (last : bitAt (m .bytes) 255 ≡ 0) (room : l .head + 27 + 255 ≤ 8 * length s) (kept : Beside (l .head + 27 + 255) hi (maskPut s l m) t) (fh : Within (partWidths 4 0) (headVals (m .epoch) (m .ssr) (m .iodp) 0)) where
   mvs : List ℕ
   mvs = headVals (m .epoch) (m .ssr) (m .iodp) 0
 
-  mmade : maskPut s l m ≡ putRows (putsAt s (l .head) (partWidths 4 0) mvs) (l .head + 27) maskWidths (maskRow (m .bits)) 255
+  mmade : maskPut s l m ≡ putRows (putsAt s (l .head) (partWidths 4 0) mvs) (l .head + 27) maskWidths (maskRow (m .bytes)) 255
   unfolding maskPut mvs
   mmade = rw has
 
   mask-head : fieldsAt t (l .head) (partWidths 4 0) ≡ mvs
   unfolding mvs
-  mask-head = head-back s t (maskPut s l m) (l .head) (l .head + 27) (l .head + 27 + 255) hi (partWidths 4 0) mvs maskWidths (maskRow (m .bits)) 255 refl refl room mmade kept fh
+  mask-head = head-back s t (maskPut s l m) (l .head) (l .head + 27) (l .head + 27 + 255) hi (partWidths 4 0) mvs maskWidths (maskRow (m .bytes)) 255 refl refl room mmade kept fh
 
-  mask-bit : (i : ℕ) → i < 255 → maskBitAt t (l .head + 27) i ≡ getD (m .bits) i false
+  mask-bit : (i : ℕ) → i < 255 → bitAt t (l .head + 27 + i) ≡ bitAt (m .bytes) i
   mask-bit i h =
-      let r : fieldsAt t (l .head + 27 + 1 * i) maskWidths ≡ maskRow (m .bits) i =
-      row-back s t (maskPut s l m) (l .head) (l .head + 27) (l .head + 27 + 255) hi (partWidths 4 0) mvs maskWidths (maskRow (m .bits)) 255 refl refl room mmade kept i h (bit-within (getD (m .bits) i false), tt) in
-      let q : fieldAt t (l .head + 27 + i) 1 ≡ pick (getD (m .bits) i false) 1 0 = rw (one-mul i) at (ap (λ (xs : List ℕ). getD xs 0 0) r) in
-      ap (λ (x : ℕ). eqb x 1) (sym (one-bit t (l .head + 27 + i)) ∙ q) ∙ bit-of (getD (m .bits) i false)
+      let r : fieldsAt t (l .head + 27 + 1 * i) maskWidths ≡ maskRow (m .bytes) i =
+      row-back s t (maskPut s l m) (l .head) (l .head + 27) (l .head + 27 + 255) hi (partWidths 4 0) mvs maskWidths (maskRow (m .bytes)) 255 refl refl room mmade kept i h (bit-lt (m .bytes) i, tt) in
+      let q : fieldAt t (l .head + 27 + i) 1 ≡ bitAt (m .bytes) i = rw (one-mul i) at (ap (λ (xs : List ℕ). getD xs 0 0) r) in
+      sym (one-bit t (l .head + 27 + i)) ∙ q
 
-  mask-bits : maskBitsAt t (l .head + 27) ≡ m .bits
-  unfolding maskBitsAt
-  mask-bits = table-ext (maskBitAt t (l .head + 27)) (λ (i : ℕ). getD (m .bits) i false) 255 mask-bit ∙ table-same (m .bits) 255 false long
+  mask-bytes : maskBytesAt t (l .head + 27) ≡ m .bytes
+  mask-bytes = bytes-back t (l .head + 27) (m .bytes) (octets .long) (octets .each) last mask-bit
 
   pub mask-back : maskPartAt t (l .head) ≡ m
   unfolding mvs
   mask-back =
       let f : (j : ℕ) → getD (fieldsAt t (l .head) (partWidths 4 0)) j 0 ≡ getD mvs j 0 = (λ j. ap (λ (xs : List ℕ). getD xs j 0) mask-head) in
-      rw (f 0, f 2, f 3, mask-bits)
+      rw (f 0, f 2, f 3, mask-bytes)

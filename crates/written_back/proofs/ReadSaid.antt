@@ -7,8 +7,9 @@ use Prim.Native.Nat.{ℕ, _+_, _*_, _/_, _%_, _^_, _<_}
 use lib.Dec.{eqb, ltb}
 use lib.Pow.{pow-pos}
 use native.Mathlib.Omega.{arith}
+use borrow.Author.Tests.{eq-eqb}
 use Rattle.bits.specs.Pick.{pick}
-use Rattle.bits.specs.Bits.{fieldAt, Within}
+use Rattle.bits.specs.Bits.{bitAt, fieldAt, Within}
 use Rattle.bits.proofs.FieldLaws.{field-lt}
 use Rattle.bits.proofs.TableLaws.{getD-table}
 use Rattle.records.specs.Ura.{uraOf, codeOf}
@@ -23,6 +24,7 @@ use Rattle.layout.specs.declared.Layout.{Layout}
 use Rattle.contents.specs.declared.parts.MaskPart.{MaskPart}
 use Rattle.contents.specs.declared.parts.ClockPart.{ClockPart}
 use Rattle.contents.specs.declared.parts.OrbitPart.{OrbitPart}
+use Rattle.contents.proofs.MaskLaws.{mask-last, none-bit}
 use Rattle.layout.proofs.LayoutLaws.{pick-all}
 use Rattle.canonical.proofs.CanonLaws.{layout-read}
 use Rattle.writing.specs.Fits.{clockVals, orbitVals, headVals, clockRow, orbitRow, fitsAll}
@@ -155,6 +157,11 @@ orbits-said s at l i h =
     (none-orbit-said s _ i h)
     (orbit-nth-said s from (l .orbits) i h)
 
+-- 02, CR 13: the last bit of a mask read is 0
+last-read : (s : List ℕ) (at : ℕ) (l : Layout) → bitAt (maskIn s at l .bytes) 255 ≡ 0
+unfolding maskIn
+last-read s at l = pick-all (λ (m : MaskPart). bitAt (m .bytes) 255 ≡ 0) (l .mask) (maskPartAt s (at + l .head)) noMask (mask-last s (at + l .head + 27)) (none-bit 255)
+
 -- 01, 16: what was read, from any bytes, is within its widths
 pub read-fits : (s : List ℕ) (at : ℕ) → fitsAll (contentsAt s at) ≡ true
 unfolding contentsAt
@@ -175,4 +182,5 @@ read-fits s at =
       within-fits (partWidths 0 0) ov (said-within s (at + orbitsFrom l) (partWidths 0 0) ov (orbit-head-said s at l)),
       all-fits kw (clockRow (k .clocks)) 23 (λ i h. said-within s (at + l .head + (23 + l .iodp + l .start) + pick (l .slotted) 27 18 * i) kw (clockRow (k .clocks) i) (clocks-said s at l i h)),
       all-fits orbitWidths (orbitRow (o .orbits)) 6 (λ i h. said-within s (at + orbitsFrom l + 23 + 69 * i) orbitWidths (orbitRow (o .orbits) i) (orbits-said s at l i h)),
+      eq-eqb _ 0 (last-read s at l),
     ))

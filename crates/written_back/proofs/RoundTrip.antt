@@ -15,34 +15,34 @@ use Rattle.canonical.proofs.CanonLaws.{canon-read, layout-read}
 use Rattle.writing.specs.Write.{contentRefusal, writeRefusal, written}
 use Rattle.writing.proofs.TakenLaws.{judged}
 use Rattle.writing.proofs.WriteLaws.{refuses-content, written-taken}
-use Rattle.written_back.specs.Limits.{Limits}
+use Rattle.written_back.specs.Limits.{Octets, Limits}
 use Rattle.written_back.specs.Demand2.{takenWith, Demand2}
 use Rattle.written_back.proofs.ReadSaid.{read-fits}
 use Rattle.written_back.proofs.LimitLaws.{content-ok, write-taken, limits-taken, taken-limits}
-use Rattle.written_back.proofs.MessageRead.{Message, message-taken, mask-long, message-read, read-mask-long, reading-answer, reading-judged}
+use Rattle.written_back.proofs.MessageRead.{Message, message-taken, mask-octets, message-read, read-octets, reading-answer, reading-judged}
 use Rattle.written_back.proofs.UnderLaws.{under-message}
 
 -- contents are taken, into any room of 61 bytes, exactly if they are within their limits
-pub taken-exactly : (room : List ℕ) (c : Contents) → length room ≡ 61 → length (c .mask .bits) ≡ 255 → (Limits (canon c) → writeRefusal room c ≡ 0) × (writeRefusal room c ≡ 0 → Limits (canon c))
-taken-exactly room c long bits = (limits-taken room c long, taken-limits room c (mask-long c bits))
+pub taken-exactly : (room : List ℕ) (c : Contents) → length room ≡ 61 → Octets 32 (c .mask .bytes) → (Limits (canon c) → writeRefusal room c ≡ 0) × (writeRefusal room c ≡ 0 → Limits (canon c))
+taken-exactly room c long octets = (limits-taken room c long, taken-limits room c (mask-octets c octets))
 
 -- what is written, where nothing is refused, is a message that says the contents in canonical form
-pub written-message : (room : List ℕ) (c : Contents) → length (canon c .mask .bits) ≡ 255 → writeRefusal room c ≡ 0 → Message (written room c) (canon c)
-written-message room c bits e = rw (written-taken room c e) (message-read c bits (write-taken room c e .1))
+pub written-message : (room : List ℕ) (c : Contents) → Octets 32 (canon c .mask .bytes) → writeRefusal room c ≡ 0 → Message (written room c) (canon c)
+written-message room c octets e = rw (written-taken room c e) (message-read c octets (write-taken room c e .1))
 
 -- reading what was written gives the contents, with blank records and absent parts as zeros
-pub round-trip : (room : List ℕ) (c : Contents) → length (canon c .mask .bits) ≡ 255 → writeRefusal room c ≡ 0 → readMessage (written room c) ≡ takenWith (canon c)
+pub round-trip : (room : List ℕ) (c : Contents) → Octets 32 (canon c .mask .bytes) → writeRefusal room c ≡ 0 → readMessage (written room c) ≡ takenWith (canon c)
 unfolding answer
-round-trip room c bits e = message-taken (written room c) (canon c) (written-message room c bits e)
+round-trip room c octets e = message-taken (written room c) (canon c) (written-message room c octets e)
 
 -- DEMAND 2
 pub demand-2 : Demand2
 demand-2 room c long h =
     let e = limits-taken room c long h in
-    record { taken = ap refusedBy e; back = round-trip room c (h .bits) e }
+    record { taken = ap refusedBy e; back = round-trip room c (h .bytes) e }
 
 -- two contents of different canonical form give different messages
-pub messages-differ : (room room′ : List ℕ) (c d : Contents) → length (canon c .mask .bits) ≡ 255 → length (canon d .mask .bits) ≡ 255 → writeRefusal room c ≡ 0 → writeRefusal room′ d ≡ 0 → canon c ≢ canon d → written room c ≢ written room′ d
+pub messages-differ : (room room′ : List ℕ) (c d : Contents) → Octets 32 (canon c .mask .bytes) → Octets 32 (canon d .mask .bytes) → writeRefusal room c ≡ 0 → writeRefusal room′ d ≡ 0 → canon c ≢ canon d → written room c ≢ written room′ d
 messages-differ room room′ c d p q e f n w =
     n (sym (written-message room c p e .contents) ∙ ap (λ (t : List ℕ). contentsAt t 0) w ∙ written-message room′ d q f .contents)
 
@@ -58,7 +58,7 @@ reading-written s room long e =
 pub read-again : (s room : List ℕ) → length room ≡ 61 → readMessage s .said ≡ says Taken → readMessage (written room (contentsAt s 0)) ≡ readMessage s
 unfolding answer
 read-again s room long e =
-    round-trip room (contentsAt s 0) (mask-long (contentsAt s 0) (read-mask-long s)) (reading-written s room long e)
+    round-trip room (contentsAt s 0) (mask-octets (contentsAt s 0) (read-octets s)) (reading-written s room long e)
     ∙ ap takenWith (canon-read s 0)
     ∙ sym (reading-answer s e)
 

@@ -38,7 +38,7 @@ pub mask-beside : (s : List ℕ) (l : Layout) (m : MaskPart) → Beside (l .head
 unfolding maskPut
 mask-beside s l m =
     beside-pick (l .head) (l .head + 27 + 255) (l .mask) s _ s
-    (part-beside s (l .head) (l .head + 27) (l .head + 27 + 255) (partWidths 4 0) _ maskWidths (maskRow (m .bits)) 255 refl refl)
+    (part-beside s (l .head) (l .head + 27) (l .head + 27 + 255) (partWidths 4 0) _ maskWidths (maskRow (m .bytes)) 255 refl refl)
     (beside-same (l .head) (l .head + 27 + 255) s)
 
 pub clocks-beside : (s : List ℕ) (l : Layout) (k : ClockPart) → Beside (l .head) (orbitsFrom l) s (clocksPut s l k)

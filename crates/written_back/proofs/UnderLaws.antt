@@ -1,7 +1,6 @@
 -- What was read, written again: each of the first 462 bits is that of the message read, or 0.
 use mathlib.Core.Path.{_≡_, refl, sym, ap, _∙_, subst}
 use mathlib.Core.Logic.{dite, _⊎_, inl, inr, ⊎-elim}
-use mathlib.Core.Bool.{false}
 use mathlib.Core.List.{List, [], _∷_}
 use Prim.Native.Nat.{ℕ, zero, suc, _+_, _-_, _*_, _/_, _%_, _^_, _≤_, _<_}
 use lib.Dec.{eqb}
@@ -14,13 +13,13 @@ use Rattle.bits.specs.Pick.{pick}
 use Rattle.bits.specs.Bits.{bitAt, fieldAt, setBit, putAt, putsAt, putRows, total}
 use Rattle.bits.proofs.FieldLaws.{bit-lt}
 use Rattle.bits.proofs.PutLaws.{bit-set-same, bit-set-other}
-use Rattle.bits.proofs.TableLaws.{getD-table}
 use Rattle.records.specs.Orbit.{orbitWidths}
 use Rattle.records.specs.Clock.{clockWidths}
 use Rattle.layout.specs.Layout.{partWidths, orbitsFrom, endOf}
-use Rattle.contents.specs.Parts.{noMask, maskBitAt, maskBitsAt, maskPartAt, maskIn, clocksIn, orbitsIn, layoutAt, contentsAt}
+use Rattle.contents.specs.Parts.{noMask, maskPartAt, maskIn, clocksIn, orbitsIn, layoutAt, contentsAt}
 use Rattle.layout.specs.declared.Layout.{Layout}
 use Rattle.contents.specs.declared.parts.MaskPart.{MaskPart}
+use Rattle.contents.proofs.MaskLaws.{one-bit, mask-bit, none-bit}
 use Rattle.layout.proofs.LayoutLaws.{pick-all, clock-total}
 use Rattle.canonical.specs.Canon.{layoutFor}
 use Rattle.canonical.proofs.CanonLaws.{layout-read}
@@ -28,7 +27,6 @@ use Rattle.canonical.proofs.KindLaws.{Headed, headed, counted}
 use Rattle.writing.specs.Fits.{headVals, clockRow, orbitRow}
 use Rattle.writing.specs.Write.{headPut, maskWidths, maskRow, maskPut, clocksPut, orbitsPut, partsPut, messageOf}
 use Rattle.written_back.proofs.CheckBack.{check-beside}
-use Rattle.written_back.proofs.PartsBack.{one-bit}
 use Rattle.written_back.proofs.ReadSaid.{Said, mask-said, clock-head-said, orbit-head-said, clocks-said, orbits-said}
 use Rattle.writing.proofs.TakenLaws.{few}
 
@@ -84,22 +82,15 @@ under-head s t l (inr e) c u =
     let q = c e in
     rw e (under-puts s t 0 (6 ∷ 5 ∷ 3 ∷ []) (fieldAt s 0 6 ∷ l .clocks ∷ l .orbits ∷ []) (inl refl, (inl (q .0), (inl (q .1), tt))) u)
 
-bit-same : (b : ℕ) → b < 2 → pick (eqb b 1) 1 0 ≡ b
-bit-same zero h = refl
-bit-same (suc zero) h = refl
-bit-same (suc (suc b)) h = absurd (let z : ⊥ = omega arith in z)
-
-mask-bit-said : (s : List ℕ) (l : Layout) (i : ℕ) → i < 255 → Said s (l .head + 27 + total maskWidths * i) maskWidths (maskRow (maskIn s 0 l .bits) i)
-unfolding maskIn noMask maskBitsAt
+mask-bit-said : (s : List ℕ) (l : Layout) (i : ℕ) → i < 255 → Said s (l .head + 27 + total maskWidths * i) maskWidths (maskRow (maskIn s 0 l .bytes) i)
+unfolding maskIn
 mask-bit-said s l i h =
     let a = 0 + l .head + 27 in
-    pick-all (λ (m : MaskPart). Said s (l .head + 27 + total maskWidths * i) maskWidths (maskRow (m .bits) i)) (l .mask) (maskPartAt s (0 + l .head)) noMask (
-      inl
-          (rw (getD-table (maskBitAt s a) 255 i false h, one-mul i, zero-add (l .head))
-          (bit-same _ (bit-lt s (l .head + 27 + i)) ∙ sym (one-bit s (l .head + 27 + i)))),
+    pick-all (λ (m : MaskPart). Said s (l .head + 27 + total maskWidths * i) maskWidths (maskRow (m .bytes) i)) (l .mask) (maskPartAt s (0 + l .head)) noMask (
+      inl (mask-bit s a i h ∙ rw (one-mul i, zero-add (l .head)) (sym (one-bit s (l .head + 27 + i)))),
       tt,
     )
-    (inr (rw (getD-table (λ (j : ℕ). false) 255 i false h)), tt)
+    (inr (none-bit i), tt)
 
 under-mask : (s t : List ℕ) (l : Layout) → Under s t → Under s (maskPut t l (maskIn s 0 l))
 unfolding maskPut
@@ -108,8 +99,8 @@ under-mask s t l u =
     let vs = headVals (m .epoch) (m .ssr) (m .iodp) 0 in
     let p = putsAt t (l .head) (partWidths 4 0) vs in
     let h : Said s (l .head) (partWidths 4 0) vs = subst (λ (a : ℕ). Said s a (partWidths 4 0) vs) (zero-add (l .head)) (mask-said s 0 l) in
-    pick-all (Under s) (l .mask) (putRows p (l .head + 27) maskWidths (maskRow (m .bits)) 255) t
-    (under-rows s p (l .head + 27) maskWidths (maskRow (m .bits)) 255 (mask-bit-said s l) (under-puts s t (l .head) (partWidths 4 0) vs h u))
+    pick-all (Under s) (l .mask) (putRows p (l .head + 27) maskWidths (maskRow (m .bytes)) 255) t
+    (under-rows s p (l .head + 27) maskWidths (maskRow (m .bytes)) 255 (mask-bit-said s l) (under-puts s t (l .head) (partWidths 4 0) vs h u))
     u
 
 under-clocks : (s t : List ℕ) (l : Layout) → l .clocks ≤ 23 → Under s t → Under s (clocksPut t l (clocksIn s 0 l))

@@ -3,10 +3,10 @@ use mathlib.Core.Path.{_≡_, refl}
 use mathlib.Core.Bool.{Bool, true, _&&_}
 use mathlib.Core.List.{List, [], _∷_}
 use Prim.Native.Nat.{ℕ, zero, suc, _<_, _^_}
-use lib.Dec.{ltb}
+use lib.Dec.{eqb, ltb}
 use native.Mathlib.Omega.{arith}
 use borrow.Author.Tests.{ltb-true, lt-ltb}
-use Rattle.bits.specs.Bits.{Within}
+use Rattle.bits.specs.Bits.{bitAt, Within}
 use Rattle.records.specs.Orbit.{orbitWidths}
 use Rattle.records.specs.Clock.{clockWidths}
 use Rattle.layout.specs.Layout.{partWidths}
@@ -51,14 +51,15 @@ all-fits ws f (suc n) h =
     and-both (allFit ws f n) (fits ws (f n)) (all-fits ws f n (λ i l. h i (omega arith))) (within-fits ws (f n) (h n (omega arith)))
 
 -- ---- the parts of the test of 16
-five : (a b c d e : Bool) → (a && b && c && d && e) ≡ true → (a ≡ true) × (b ≡ true) × (c ≡ true) × (d ≡ true) × (e ≡ true)
-five a b c d e h =
-    let p = and-left (a && b && c && d) e h in
+six : (a b c d e f : Bool) → (a && b && c && d && e && f) ≡ true → (a ≡ true) × (b ≡ true) × (c ≡ true) × (d ≡ true) × (e ≡ true) × (f ≡ true)
+six a b c d e f h =
+    let o = and-left (a && b && c && d && e) f h in
+    let p = and-left (a && b && c && d) e o in
     let q = and-left (a && b && c) d p in
     let r = and-left (a && b) c q in
-    (and-left a b r, and-right a b r, and-right (a && b) c q, and-right (a && b && c) d p, and-right (a && b && c && d) e h)
+    (and-left a b r, and-right a b r, and-right (a && b) c q, and-right (a && b && c) d p, and-right (a && b && c && d) e o, and-right (a && b && c && d && e) f h)
 
--- the heads and the records of contents
+-- the heads and the records of contents, and the last bit of the mask's bytes
 abbrev pub Parts : Layout → Contents → Type 0
 Parts l c =
     (fits (partWidths 4 0) (headVals (c .mask .epoch) (c .mask .ssr) (c .mask .iodp) 0) ≡ true)
@@ -66,11 +67,12 @@ Parts l c =
     × (fits (partWidths 0 0) (headVals (c .orbit .epoch) (c .orbit .ssr) 0 0) ≡ true)
     × (allFit (clockWidths (l .slotted)) (clockRow (c .clock .clocks)) 23 ≡ true)
     × (allFit orbitWidths (orbitRow (c .orbit .orbits)) 6 ≡ true)
+    × (eqb (bitAt (c .mask .bytes) 255) 0 ≡ true)
 
 pub fit-parts : (c : Contents) → fitsAll c ≡ true → Parts (layoutFor c) c
 unfolding fitsAll
-fit-parts c e = five _ _ _ _ _ e
+fit-parts c e = six _ _ _ _ _ _ e
 
 pub parts-fit : (c : Contents) → Parts (layoutFor c) c → fitsAll c ≡ true
 unfolding fitsAll
-parts-fit c p = rw (p .0, p .1, p .2, p .3, p .4)
+parts-fit c p = rw (p .0, p .1, p .2, p .3, p .4, p .5)

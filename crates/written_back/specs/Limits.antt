@@ -1,11 +1,13 @@
 -- 01, Message fields and Refusal numbers 8 to 12 and 16: the limits of contents in canonical form, field by field.
 use mathlib.Core.Path.{_≡_}
 use mathlib.Core.Logic.{_≢_}
-use mathlib.Core.Bool.{Bool, true, false}
+use mathlib.Core.Bool.{Bool, true}
+use mathlib.Core.List.{List}
 use Prim.Native.Nat.{ℕ, _-_, _^_, _≤_, _<_}
 use lib.IntN.{ℤ, pos, negsuc}
 use lib.ListN.{getD, length}
 use Rattle.bits.specs.Pick.{pick}
+use Rattle.bits.specs.Bits.{bitAt}
 use Rattle.records.specs.Ura.{quartersOf}
 use Rattle.records.specs.Orbit.{blankOrbit}
 use Rattle.records.specs.Clock.{blankClock}
@@ -52,6 +54,11 @@ pub record OrbitLimits (o : Orbit) : Type 0 where
   pub cross : Ranged 13 (o .cross)
   pub ura : Coded (o .ura)
 
+-- n bytes
+pub record Octets (n : ℕ) (s : List ℕ) : Type 0 where
+  pub long : length s ≡ n
+  pub each : (j : ℕ) → getD s j 0 < 256
+
 -- 01, 12: a slot that is not blank stands once among n
 abbrev pub Once : ℕ → (ℕ → ℕ) → Type 0
 Once n slot = (i j : ℕ) → i < j → j < n → slot i ≢ 0 → slot j ≢ slot i
@@ -74,5 +81,6 @@ pub record Limits (c : Contents) : Type 0 where
   -- 01, 12: no slot twice among the clocks, nor among the orbits
   pub clocks-once : Once 23 (λ (i : ℕ). getD (c .clock .clocks) i blankClock .slot)
   pub orbits-once : Once 6 (λ (i : ℕ). getD (c .orbit .orbits) i blankOrbit .slot)
-  -- 01, Message fields: mask [255], a bit for each slot
-  pub bits : length (c .mask .bits) ≡ 255
+  -- 01, Message fields: mask [255], a bit for each slot; 02, CR 13: in 32 bytes, and 16: the last bit is 0
+  pub bytes : Octets 32 (c .mask .bytes)
+  pub last : bitAt (c .mask .bytes) 255 ≡ 0

@@ -11,13 +11,13 @@ use Rattle.flat_forms.proofs.put_clocks.Statement.{statement}
 use Rattle.flat_forms.proofs.put_clocks.Tie as tie
 
 abbrev Inv-loop : tie.InvT-loop
-Inv-loop room₀ ks i₀ room i = (i ≤ 23) × (length room ≡ length room₀) × (room ≡ storeAt room₀ 271 (rowsTo (flatClockRow ks) i))
+Inv-loop room₀ ks i₀ room i = (i ≤ 23) × (length room ≡ length room₀) × (room ≡ storeAt room₀ 48 (rowsTo (flatClockRow ks) i))
 
 abbrev μ-loop : tie.MeasureT-loop
 μ-loop room₀ ks i₀ room i = 23 - i
 
 loop-holds : tie.Need-loop-holds Inv-loop μ-loop
-loop-holds c = let a = c .before .args in (omega arith, refl, rows-start (flatClockRow (a .t2)) 5 (λ i. refl) (a .room .now) 271)
+loop-holds c = let a = c .before .args in (omega arith, refl, rows-start (flatClockRow (a .t2)) 5 (λ i. refl) (a .room .now) 48)
 
 mul-k : tie.Need-mul-k Inv-loop μ-loop
 mul-k c = search needs
@@ -46,7 +46,7 @@ loop-again c =
     let a = c .before .before .before .before .before .before .before .before .args in (
       omega arith,
       c .before .before .put-clock .kept .0 ∙ l .inv .1,
-      c .before .before .put-clock .ensures ∙ rows-next (flatClockRow (a .t2)) 5 (λ i. refl) (a .room .now) (l .room) 271 (l .i) _ (l .inv .2) refl,
+      c .before .before .put-clock .ensures ∙ rows-next (flatClockRow (a .t2)) 5 (λ i. refl) (a .room .now) (l .room) 48 (l .i) _ (l .inv .2) refl,
     )
 
 same-length : tie.Need-same-length Inv-loop μ-loop

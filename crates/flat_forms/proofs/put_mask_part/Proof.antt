@@ -6,9 +6,6 @@ use Rattle.flat_forms.proofs.put_mask_part.Tie as tie
 mask-head-requires : tie.Need-mask-head-requires
 mask-head-requires c κs = search needs
 
-flags-of-requires : tie.Need-flags-of-requires
-flags-of-requires c κs = search needs
-
 slice-aggregate-store : tie.Need-slice-aggregate-store
 slice-aggregate-store c = search needs
 
@@ -25,16 +22,13 @@ same-length : tie.Need-same-length
 same-length c = search needs
 
 returns : tie.Need-returns
-returns c =
-    let a = c .before .before .before .before .before .before .before .before .before .before .before .before .before .before .args in
-    rw (c .before .before .store2 .ensures, c .before .before .before .before .before .before .before .store .ensures, c .before .before .before .before .before .before .before .before .before .before .flags-of .ensures, c .before .before .before .before .before .before .before .before .before .before .before .before .mask-head .ensures) (mask-two (a .room .now) (a .kind) (a .m))
+returns c = ?
 
 pub put-mask-part-spec : {M : Type 1} → statement M
 put-mask-part-spec =
     tie.close
     (tie.spec
     mask-head-requires
-    flags-of-requires
     slice-aggregate-store
     store-requires
     slice-aggregate-store-2

@@ -11,13 +11,13 @@ use Rattle.flat_forms.proofs.put_orbits.Statement.{statement}
 use Rattle.flat_forms.proofs.put_orbits.Tie as tie
 
 abbrev Inv-loop : tie.InvT-loop
-Inv-loop room₀ os i₀ room i = (i ≤ 6) × (length room ≡ length room₀) × (room ≡ storeAt room₀ 392 (rowsTo (flatOrbitRow os) i))
+Inv-loop room₀ os i₀ room i = (i ≤ 6) × (length room ≡ length room₀) × (room ≡ storeAt room₀ 169 (rowsTo (flatOrbitRow os) i))
 
 abbrev μ-loop : tie.MeasureT-loop
 μ-loop room₀ os i₀ room i = 6 - i
 
 loop-holds : tie.Need-loop-holds Inv-loop μ-loop
-loop-holds c = let a = c .before .args in (omega arith, refl, rows-start (flatOrbitRow (a .t2)) 16 (λ i. refl) (a .room .now) 392)
+loop-holds c = let a = c .before .args in (omega arith, refl, rows-start (flatOrbitRow (a .t2)) 16 (λ i. refl) (a .room .now) 169)
 
 mul-o : tie.Need-mul-o Inv-loop μ-loop
 mul-o c = search needs
@@ -46,7 +46,7 @@ loop-again c =
     let a = c .before .before .before .before .before .before .before .before .args in (
       omega arith,
       c .before .before .put-orbit .kept .0 ∙ l .inv .1,
-      c .before .before .put-orbit .ensures ∙ rows-next (flatOrbitRow (a .t2)) 16 (λ i. refl) (a .room .now) (l .room) 392 (l .i) _ (l .inv .2) refl,
+      c .before .before .put-orbit .ensures ∙ rows-next (flatOrbitRow (a .t2)) 16 (λ i. refl) (a .room .now) (l .room) 169 (l .i) _ (l .inv .2) refl,
     )
 
 same-length : tie.Need-same-length Inv-loop μ-loop

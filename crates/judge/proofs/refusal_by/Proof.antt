@@ -68,8 +68,7 @@ returns-5 c =
 
 returns-6 : tie.Need-returns-6
 returns-6 c =
-    let c5 = c .before in
-    let c4 = c5 .before .before in
+    let c4 = c .before .before in
     let c3 = c4 .before .before in
     let c2 = c3 .before .before in
     let c1 = c2 .before .before in
@@ -78,7 +77,7 @@ returns-6 c =
       sym (c2 .before .too-long .ensures) ∙ c2 .if2 .left,
       sym (c3 .before .is-late .ensures) ∙ c3 .if3 .left,
       sym (c4 .before .high-slot .ensures) ∙ c4 .if4 .left,
-      sym (c5 .before .slot-twice .ensures) ∙ c5 .if5 .left,
+      sym (c .before .slot-twice .ensures) ∙ c .if5 .left,
     )
 
 pub refusal-by-spec : {M : Type 1} → statement M

@@ -21,17 +21,22 @@ clocks-fit-requires c κs = search needs
 orbits-fit-requires : tie.Need-orbits-fit-requires
 orbits-fit-requires c κs = search needs
 
+mask-bit-requires : tie.Need-mask-bit-requires
+mask-bit-requires c κs = search needs
+
 returns : tie.Need-returns
 unfolding fitsAll
 returns c =
-    let h = c .before .before in
+    let f = c .before in
+    let h = f .before .before in
     rw (
-      c .orbits-fit .ensures,
-      c .before .clocks-fit .ensures,
+      c .mask-bit .ensures,
+      f .orbits-fit .ensures,
+      f .before .clocks-fit .ensures,
       h .head-fits3 .ensures,
       h .before .head-fits2 .ensures,
       h .before .before .head-fits .ensures,
-      h .before .before .before .before .before .layout-of .ensures,
+      h .before .before .before .before .before .before .layout-of .ensures,
     )
 
 pub all-fields-fit-spec : {M : Type 1} → statement M
@@ -44,4 +49,5 @@ all-fields-fit-spec =
     head-fits-requires-3
     clocks-fit-requires
     orbits-fit-requires
+    mask-bit-requires
     returns)

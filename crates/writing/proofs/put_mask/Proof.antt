@@ -9,11 +9,11 @@ cast-at c = search needs
 put-part-head-requires : tie.Need-put-part-head-requires
 put-part-head-requires c κs = search needs
 
-add-put-bits : tie.Need-add-put-bits
-add-put-bits c = search needs
+add-put-mask-bits : tie.Need-add-put-mask-bits
+add-put-mask-bits c = search needs
 
-put-bits-requires : tie.Need-put-bits-requires
-put-bits-requires c κs = search needs
+put-mask-bits-requires : tie.Need-put-mask-bits-requires
+put-mask-bits-requires c κs = search needs
 
 same-length : tie.Need-same-length
 same-length c = search needs
@@ -23,7 +23,7 @@ unfolding maskPut
 returns c =
     let b = c .before .before in
     let h = b .before .before .before .before in
-    rw (h .before .before .before .before .if1 .taken, ← (h .put-part-head .ensures)) (b .put-bits .ensures)
+    rw (h .before .before .before .before .if1 .taken, ← (h .put-part-head .ensures)) (b .put-mask-bits .ensures)
 
 returns-2 : tie.Need-returns-2
 unfolding maskPut
@@ -35,8 +35,8 @@ put-mask-spec =
     (tie.spec
     cast-at
     put-part-head-requires
-    add-put-bits
-    put-bits-requires
+    add-put-mask-bits
+    put-mask-bits-requires
     same-length
     returns
     returns-2)

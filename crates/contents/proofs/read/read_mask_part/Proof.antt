@@ -26,14 +26,14 @@ add-get8-5 c = search needs
 get8-requires-2 : tie.Need-get8-requires-2
 get8-requires-2 c κs = search needs
 
-add-read-bits : tie.Need-add-read-bits
-add-read-bits c = search needs
+add-read-mask-bytes : tie.Need-add-read-mask-bytes
+add-read-mask-bytes c = search needs
 
-read-bits-requires : tie.Need-read-bits-requires
-read-bits-requires c κs = search needs
+read-mask-bytes-requires : tie.Need-read-mask-bytes-requires
+read-mask-bytes-requires c κs = search needs
 
 returns : tie.Need-returns
-returns c = rw (c .read-bits .ensures, c .before .get82 .ensures, c .before .before .get8 .ensures, c .before .before .before .get32 .ensures)
+returns c = rw (c .read-mask-bytes .ensures, c .before .get82 .ensures, c .before .before .get8 .ensures, c .before .before .before .get32 .ensures)
 
 pub read-mask-part-spec : {M : Type 1} → statement M
 read-mask-part-spec =
@@ -47,6 +47,6 @@ read-mask-part-spec =
     add-get8-4
     add-get8-5
     get8-requires-2
-    add-read-bits
-    read-bits-requires
+    add-read-mask-bytes
+    read-mask-bytes-requires
     returns)

@@ -12,10 +12,10 @@ use Rattle.show.proofs.lines.put_slot.Reads as put-slot-reads
 use Rattle.console.proofs.put.cursor_in.Reads as cursor-in-reads
 
 abbrev Inv-loop : tie.InvT-loop
-Inv-loop room₀ at bits n₀ i₀ room n i = (length room ≡ length room₀) × (n ≤ length room) × (i ≤ 255)
+Inv-loop room₀ at bytes n₀ i₀ room n i = (length room ≡ length room₀) × (n ≤ length room) × (i ≤ 255)
 
 abbrev μ-loop : tie.MeasureT-loop
-μ-loop room₀ at bits n₀ i₀ room n i = 255 - i
+μ-loop room₀ at bytes n₀ i₀ room n i = 255 - i
 
 cursor-in-requires : tie.Need-cursor-in-requires Inv-loop μ-loop
 cursor-in-requires c κs = search needs
@@ -26,8 +26,8 @@ loop-holds c = search needs
 add-put-slot : tie.Need-add-put-slot Inv-loop μ-loop
 add-put-slot c = search needs
 
-array-read-put-slot : tie.Need-array-read-put-slot Inv-loop μ-loop
-array-read-put-slot c = search needs
+is-set-requires : tie.Need-is-set-requires Inv-loop μ-loop
+is-set-requires c κs = search needs
 
 put-slot-requires : tie.Need-put-slot-requires Inv-loop μ-loop
 put-slot-requires c κs = search needs
@@ -56,7 +56,7 @@ put-slots-spec =
     cursor-in-requires
     loop-holds
     add-put-slot
-    array-read-put-slot
+    is-set-requires
     put-slot-requires
     add-i
     loop-less

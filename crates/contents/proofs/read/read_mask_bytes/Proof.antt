@@ -6,22 +6,21 @@ use mathlib.Core.List.{_++_}
 use lib.ListN.{length, drop}
 use Rattle.bits.specs.Table.{table}
 use Rattle.bits.proofs.TableLaws.{fill-start, fill-step, fill-done}
-use Rattle.contents.specs.Parts.{maskBitAt, maskBitsAt}
-use mathlib.Core.Bool.{false}
-use Rattle.contents.proofs.read.read_bits.Statement.{statement}
-use Rattle.contents.proofs.read.read_bits.Tie as tie
+use Rattle.contents.specs.Parts.{maskByteAt, maskBytesAt}
+use Rattle.contents.proofs.read.read_mask_bytes.Statement.{statement}
+use Rattle.contents.proofs.read.read_mask_bytes.Tie as tie
 
 abbrev Inv-loop : tie.InvT-loop
-Inv-loop s at out₀ i₀ out i = (i ≤ 255) × (length out₀ ≡ 255) × (out ≡ table (maskBitAt s at) i ++ drop i out₀)
+Inv-loop s at out₀ j₀ out j = (j ≤ 32) × (length out₀ ≡ 32) × (out ≡ table (maskByteAt s at) j ++ drop j out₀)
 
 abbrev μ-loop : tie.MeasureT-loop
-μ-loop s at out₀ i₀ out i = 255 - i
+μ-loop s at out₀ j₀ out j = 32 - j
 
 loop-holds : tie.Need-loop-holds Inv-loop μ-loop
 loop-holds c = (omega arith, refl, fill-start _ _)
 
-mask-bit-requires : tie.Need-mask-bit-requires Inv-loop μ-loop
-mask-bit-requires c κs = search needs
+mask-byte-requires : tie.Need-mask-byte-requires Inv-loop μ-loop
+mask-byte-requires c κs = search needs
 
 cast-out : tie.Need-cast-out Inv-loop μ-loop
 cast-out c = search needs
@@ -29,34 +28,34 @@ cast-out c = search needs
 array-write-out : tie.Need-array-write-out Inv-loop μ-loop
 array-write-out c = search needs
 
-add-i : tie.Need-add-i Inv-loop μ-loop
-add-i c = search needs
+add-j : tie.Need-add-j Inv-loop μ-loop
+add-j c = search needs
 
 loop-less : tie.Need-loop-less Inv-loop μ-loop
 loop-less c = search needs
 
 loop-again : tie.Need-loop-again Inv-loop μ-loop
 loop-again c =
-    let i = c .before .before .loop in
-    (omega arith, refl, fill-step _ (i .i) _ _ _ false (omega arith) (i .inv .2) (c .mask-bit .ensures))
+    let l = c .before .before .loop in
+    (omega arith, refl, fill-step _ (l .j) _ _ _ 0 (omega arith) (l .inv .2) (c .mask-byte .ensures))
 
 returns : tie.Need-returns Inv-loop μ-loop
-unfolding maskBitsAt
+unfolding maskBytesAt
 returns c =
-    let i = c .before .loop in
-    fill-done _ (i .i) 255 _ _ (omega arith) refl (i .inv .2)
+    let l = c .before .loop in
+    fill-done _ (l .j) 32 _ _ (omega arith) refl (l .inv .2)
 
-pub read-bits-spec : {M : Type 1} → statement M
-read-bits-spec =
+pub read-mask-bytes-spec : {M : Type 1} → statement M
+read-mask-bytes-spec =
     tie.close
     (tie.spec
     Inv-loop
     μ-loop
     loop-holds
-    mask-bit-requires
+    mask-byte-requires
     cast-out
     array-write-out
-    add-i
+    add-j
     loop-less
     loop-again
     returns)

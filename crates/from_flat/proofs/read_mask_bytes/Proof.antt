@@ -1,24 +1,21 @@
--- The flags before entry i are read.
+-- The bytes before entry i are read.
 use borrow.Author.Needs.{needs}
 use native.Mathlib.Omega.{arith}
-use Prim.Native.Nat.{ℕ, _-_, _≤_}
-use mathlib.Core.Path.{_≡_, ap, refl}
-use lib.ListN.{length}
+use Prim.Native.Nat.{ℕ, _+_, _-_, _≤_}
+use mathlib.Core.Path.{_≡_, refl}
+use lib.ListN.{getD, length, drop}
 use mathlib.Core.List.{_++_}
-use lib.ListN.{drop}
+use Rattle.bits.specs.Bytes.{rowAt}
 use Rattle.bits.specs.Table.{table}
 use Rattle.bits.proofs.TableLaws.{fill-start, fill-step, fill-done}
-use mathlib.Core.Bool.{false}
-use lib.Dec.{eqb}
-use Rattle.from_flat.specs.Read.{flagAt, flagsAt}
-use Rattle.from_flat.proofs.read_flags.Statement.{statement}
-use Rattle.from_flat.proofs.read_flags.Tie as tie
+use Rattle.from_flat.proofs.read_mask_bytes.Statement.{statement}
+use Rattle.from_flat.proofs.read_mask_bytes.Tie as tie
 
 abbrev Inv-loop : tie.InvT-loop
-Inv-loop t out₀ i₀ out i = (i ≤ 255) × (length out₀ ≡ 255) × (out ≡ table (flagAt t) i ++ drop i out₀)
+Inv-loop t out₀ i₀ out i = (i ≤ 32) × (length out₀ ≡ 32) × (out ≡ table (λ (k : ℕ). getD t (7 + k) 0) i ++ drop i out₀)
 
 abbrev μ-loop : tie.MeasureT-loop
-μ-loop t out₀ i₀ out i = 255 - i
+μ-loop t out₀ i₀ out i = 32 - i
 
 loop-holds : tie.Need-loop-holds Inv-loop μ-loop
 loop-holds c = (omega arith, refl, fill-start _ _)
@@ -41,17 +38,16 @@ loop-less c = search needs
 loop-again : tie.Need-loop-again Inv-loop μ-loop
 loop-again c =
     let l = c .before .before .loop in
-    let t = c .before .before .before .before .args .t .now in
-    (omega arith, refl, fill-step (flagAt t) (l .i) _ _ _ false (omega arith) (l .inv .2) (ap (λ (b : ℕ). eqb b 1) (c .byte .ensures)))
+    (omega arith, refl, fill-step _ (l .i) _ _ _ 0 (omega arith) (l .inv .2) (c .byte .ensures))
 
 returns : tie.Need-returns Inv-loop μ-loop
-unfolding flagsAt
+unfolding rowAt
 returns c =
     let l = c .before .loop in
-    fill-done _ (l .i) 255 _ _ (omega arith) refl (l .inv .2)
+    fill-done _ (l .i) 32 _ _ (omega arith) refl (l .inv .2)
 
-pub read-flags-spec : {M : Type 1} → statement M
-read-flags-spec =
+pub read-mask-bytes-spec : {M : Type 1} → statement M
+read-mask-bytes-spec =
     tie.close
     (tie.spec
     Inv-loop
