@@ -5,7 +5,8 @@ use mathlib.Core.Bool.{Bool, true, false, not, _&&_, true≢false}
 use lib.Dec.{eqb}
 use borrow.Author.Tests.{eq-eqb, ne-eqb}
 use Rattle.bits.specs.Pick.{pick}
-use Rattle.held_mask.specs.Mask.{HeldMask, bitAtSlot}
+use Rattle.mask_bits.specs.Bits.{bitAtSlot}
+use Rattle.held_mask.specs.Mask.{HeldMask}
 use Rattle.held_clocks.specs.declared.HeldClock.{HeldClock}
 use Rattle.held_orbits.specs.declared.HeldOrbit.{HeldOrbit}
 use Rattle.list.specs.Row.{isKnown, usable, agrees, isAssigned, qualifies}

@@ -5,7 +5,8 @@ use mathlib.Core.Bool.{true, not, _&&_}
 use mathlib.Core.List.{List}
 use lib.Dec.{eqb}
 use Rattle.bits.specs.Pick.{pick}
-use Rattle.held_mask.specs.Mask.{HeldMask, bitAtSlot, maskAt}
+use Rattle.mask_bits.specs.Bits.{bitAtSlot}
+use Rattle.held_mask.specs.Mask.{HeldMask, maskAt}
 use Rattle.held_clocks.specs.Clocks.{heldClockAt}
 use Rattle.held_orbits.specs.Orbits.{heldOrbitAt}
 use Rattle.held_clocks.specs.declared.HeldClock.{HeldClock}

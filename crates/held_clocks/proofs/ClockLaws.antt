@@ -35,26 +35,26 @@ ClocksHeld ns = AllHeld (λ (h : HeldClock). h .has) ns
 
 module _ (s : List ℕ) (long : length s ≡ size) where
   pub clocks-view : (ns : List (Named HeldClock)) → ClocksHeld ns → heldClocksAt (putClocks s ns) ≡ putAll (heldClocksAt s) ns
-  clocks-view ns a = puts-view heldClockOf heldClockBytes 12 clock-long s 260 ns (omega arith) (held-sound heldClockOf heldClockBytes 12 clock-long (λ (h : HeldClock). h .has) clock-sound ns a)
+  clocks-view ns a = puts-view heldClockOf heldClockBytes 12 clock-long s 36 ns (omega arith) (held-sound heldClockOf heldClockBytes 12 clock-long (λ (h : HeldClock). h .has) clock-sound ns a)
 
   -- 01, What the ledger keeps: clocks that came by place are gone
   pub clocks-dropped : heldClocksAt (droppedClocks s 255) ≡ map (unplaced clocksKept) (heldClocksAt s)
-  clocks-dropped = dropped-view clocksKept heldClockOf heldClockBytes 12 clock-long no-clock-sound s 260 (omega arith)
+  clocks-dropped = dropped-view clocksKept heldClockOf heldClockBytes 12 clock-long no-clock-sound s 36 (omega arith)
 
 -- ---- what each step keeps, of bytes of any length
 module _ (s : List ℕ) where
-  pub clock-room : (slot : ℕ) (h : HeldClock) → Kept 260 3320 s (putClock s slot h)
-  clock-room slot h = put-room heldClockOf heldClockBytes 12 clock-long s 260 slot h
+  pub clock-room : (slot : ℕ) (h : HeldClock) → Kept 36 3096 s (putClock s slot h)
+  clock-room slot h = put-room heldClockOf heldClockBytes 12 clock-long s 36 slot h
 
-  pub clocks-room : (ns : List (Named HeldClock)) → Kept 260 3320 s (putClocks s ns)
-  clocks-room ns = puts-room heldClockOf heldClockBytes 12 clock-long s 260 ns
+  pub clocks-room : (ns : List (Named HeldClock)) → Kept 36 3096 s (putClocks s ns)
+  clocks-room ns = puts-room heldClockOf heldClockBytes 12 clock-long s 36 ns
 
-  pub dropped-room : (n : ℕ) → Kept 260 3320 s (droppedClocks s n)
-  dropped-room n = drop-room clocksKept heldClockOf heldClockBytes 12 clock-long s 260 n
+  pub dropped-room : (n : ℕ) → Kept 36 3096 s (droppedClocks s n)
+  dropped-room n = drop-room clocksKept heldClockOf heldClockBytes 12 clock-long s 36 n
 
 -- clocks are as they were where their bytes are
-pub clocks-kept : (lo hi : ℕ) (s t : List ℕ) → Kept lo hi s t → (3320 ≤ lo) ⊎ (hi ≤ 260) → heldClocksAt t ≡ heldClocksAt s
-clocks-kept lo hi s t k o = helds-kept heldClockOf 12 260 lo hi s t k o
+pub clocks-kept : (lo hi : ℕ) (s t : List ℕ) → Kept lo hi s t → (3096 ≤ lo) ⊎ (hi ≤ 36) → heldClocksAt t ≡ heldClocksAt s
+clocks-kept lo hi s t k o = helds-kept heldClockOf 12 36 lo hi s t k o
 
 -- zero bytes, however many, hold no clock
 module _ (s : List ℕ) (zeros : (j : ℕ) → getD s j 0 ≡ 0) where

@@ -1,4 +1,4 @@
--- docs/FORM.md: the clocks that a ledger keeps, as lent bytes: 255 of 12 bytes from byte 260 on. First byte 1 means held; anything else is the absent record.
+-- docs/FORM.md: the clocks that a ledger keeps, as lent bytes: 255 of 12 bytes from byte 36 on. First byte 1 means held; anything else is the absent record.
 use Prim.Native.Nat.{ℕ, _/_, _%_}
 use mathlib.Core.Bool.{true, false}
 use mathlib.Core.List.{List, [], _∷_}
@@ -53,28 +53,28 @@ heldClockOf r =
 
 -- FORM: where the clock of a slot begins
 abbrev pub clockOffset : ℕ → ℕ
-clockOffset slot = offset 12 260 slot
+clockOffset slot = offset 12 36 slot
 
 -- the clock kept for a slot
 abbrev pub heldClockAt : List ℕ → ℕ → HeldClock
-heldClockAt s slot = heldAt heldClockOf 12 s 260 slot
+heldClockAt s slot = heldAt heldClockOf 12 s 36 slot
 
 -- the clocks kept for slots 1 to 255
 abbrev pub heldClocksAt : List ℕ → List HeldClock
-heldClocksAt s = heldsAt heldClockOf 12 s 260
+heldClocksAt s = heldsAt heldClockOf 12 s 36
 
 -- the bytes with a clock kept for a slot
 abbrev pub putClock : List ℕ → ℕ → HeldClock → List ℕ
-putClock s slot h = putHeld heldClockBytes 12 s 260 slot h
+putClock s slot h = putHeld heldClockBytes 12 s 36 slot h
 
 -- the bytes with named clocks kept, one after the other
 abbrev pub putClocks : List ℕ → List (Named HeldClock) → List ℕ
-putClocks s ns = putHelds heldClockBytes 12 s 260 ns
+putClocks s ns = putHelds heldClockBytes 12 s 36 ns
 
 -- the bytes with the clock of a slot dropped if it came by place
 abbrev pub dropClock : List ℕ → ℕ → List ℕ
-dropClock s slot = dropOne clocksKept heldClockOf heldClockBytes 12 s 260 slot
+dropClock s slot = dropOne clocksKept heldClockOf heldClockBytes 12 s 36 slot
 
 -- the same for slots 1 to n
 abbrev pub droppedClocks : List ℕ → ℕ → List ℕ
-droppedClocks s n = droppedTo clocksKept heldClockOf heldClockBytes 12 s 260 n
+droppedClocks s n = droppedTo clocksKept heldClockOf heldClockBytes 12 s 36 n

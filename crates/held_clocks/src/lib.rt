@@ -58,9 +58,9 @@ fn clock_offset(slot: Slot) -> usize
 {
     let s = slot.0;
     if s == 0 {
-        260
+        36
     } else {
-        260 + 12 * ((s - 1) as usize)
+        36 + 12 * ((s - 1) as usize)
     }
 }
 

@@ -1,3 +1,3 @@
-pub mod CaseLaws
 pub mod MaskLaws
-pub mod PlaceLaws
+pub mod CaseLaws
+pub mod OldFormLaws

@@ -49,16 +49,16 @@ OrbitsHeld ns = AllHeld (λ (h : HeldOrbit). h .has) ns
 
 module _ (s : List ℕ) (long : length s ≡ size) where
   pub orbits-view : (ns : List (Named HeldOrbit)) → OrbitsHeld ns → heldOrbitsAt (putOrbits s ns) ≡ putAll (heldOrbitsAt s) ns
-  orbits-view ns a = puts-view heldOrbitOf heldOrbitBytes 24 orbit-long s 3320 ns (omega arith) (held-sound heldOrbitOf heldOrbitBytes 24 orbit-long (λ (h : HeldOrbit). h .has) orbit-sound ns a)
+  orbits-view ns a = puts-view heldOrbitOf heldOrbitBytes 24 orbit-long s 3096 ns (omega arith) (held-sound heldOrbitOf heldOrbitBytes 24 orbit-long (λ (h : HeldOrbit). h .has) orbit-sound ns a)
 
 -- ---- what each step keeps, of bytes of any length
 module _ (s : List ℕ) where
-  pub orbits-room : (ns : List (Named HeldOrbit)) → Kept 3320 9440 s (putOrbits s ns)
-  orbits-room ns = puts-room heldOrbitOf heldOrbitBytes 24 orbit-long s 3320 ns
+  pub orbits-room : (ns : List (Named HeldOrbit)) → Kept 3096 9216 s (putOrbits s ns)
+  orbits-room ns = puts-room heldOrbitOf heldOrbitBytes 24 orbit-long s 3096 ns
 
 -- orbits are as they were where their bytes are
-pub orbits-kept : (lo hi : ℕ) (s t : List ℕ) → Kept lo hi s t → (9440 ≤ lo) ⊎ (hi ≤ 3320) → heldOrbitsAt t ≡ heldOrbitsAt s
-orbits-kept lo hi s t k o = helds-kept heldOrbitOf 24 3320 lo hi s t k o
+pub orbits-kept : (lo hi : ℕ) (s t : List ℕ) → Kept lo hi s t → (9216 ≤ lo) ⊎ (hi ≤ 3096) → heldOrbitsAt t ≡ heldOrbitsAt s
+orbits-kept lo hi s t k o = helds-kept heldOrbitOf 24 3096 lo hi s t k o
 
 -- zero bytes, however many, hold no orbit
 module _ (s : List ℕ) (zeros : (j : ℕ) → getD s j 0 ≡ 0) where

@@ -28,7 +28,7 @@ pub orbit-made : {e e' s s' i i' k k' : ℕ} {r r' a a' c c' : ℤ} {u u' : Ura}
 orbit-made e s i k r a c u = rw (e, s, i, k, r, a, c, u)
 
 -- an offset a little further on
-pub fits-on : {at : ℕ} (k : ℕ) → at < 9440 → k < 100 → Fits w64 (at + k)
+pub fits-on : {at : ℕ} (k : ℕ) → at < 9216 → k < 100 → Fits w64 (at + k)
 fits-on k h l = search needs
 
 module _ (s : List ℕ) (slot at : ℕ) where

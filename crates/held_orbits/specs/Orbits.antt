@@ -1,4 +1,4 @@
--- docs/FORM.md: the orbits that a ledger keeps, as lent bytes: 255 of 24 bytes from byte 3320 on, up to its end. First byte 1 means held; anything else is
+-- docs/FORM.md: the orbits that a ledger keeps, as lent bytes: 255 of 24 bytes from byte 3096 on, up to its end. First byte 1 means held; anything else is
 -- the absent record.
 use Prim.Native.Nat.{ℕ, _/_, _%_}
 use mathlib.Core.Bool.{true, false}
@@ -66,20 +66,20 @@ heldOrbitOf r =
 
 -- FORM: where the orbit of a slot begins
 abbrev pub orbitOffset : ℕ → ℕ
-orbitOffset slot = offset 24 3320 slot
+orbitOffset slot = offset 24 3096 slot
 
 -- the orbit kept for a slot
 abbrev pub heldOrbitAt : List ℕ → ℕ → HeldOrbit
-heldOrbitAt s slot = heldAt heldOrbitOf 24 s 3320 slot
+heldOrbitAt s slot = heldAt heldOrbitOf 24 s 3096 slot
 
 -- the orbits kept for slots 1 to 255
 abbrev pub heldOrbitsAt : List ℕ → List HeldOrbit
-heldOrbitsAt s = heldsAt heldOrbitOf 24 s 3320
+heldOrbitsAt s = heldsAt heldOrbitOf 24 s 3096
 
 -- the bytes with an orbit kept for a slot
 abbrev pub putOrbit : List ℕ → ℕ → HeldOrbit → List ℕ
-putOrbit s slot h = putHeld heldOrbitBytes 24 s 3320 slot h
+putOrbit s slot h = putHeld heldOrbitBytes 24 s 3096 slot h
 
 -- the bytes with named orbits kept, one after the other
 abbrev pub putOrbits : List ℕ → List (Named HeldOrbit) → List ℕ
-putOrbits s ns = putHelds heldOrbitBytes 24 s 3320 ns
+putOrbits s ns = putHelds heldOrbitBytes 24 s 3096 ns

@@ -86,9 +86,9 @@ fn orbit_offset(slot: Slot) -> usize
 {
     let s = slot.0;
     if s == 0 {
-        3320
+        3096
     } else {
-        3320 + 24 * ((s - 1) as usize)
+        3096 + 24 * ((s - 1) as usize)
     }
 }
 

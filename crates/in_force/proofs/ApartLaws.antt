@@ -14,10 +14,10 @@ use Rattle.held_orbits.proofs.OrbitLaws.{orbits-room, orbits-kept}
 
 module _ (s : List ℕ) where
   pub clocks-by-orbits : (ns : List (Named HeldOrbit)) → heldClocksAt (putOrbits s ns) ≡ heldClocksAt s
-  clocks-by-orbits ns = clocks-kept 3320 9440 s (putOrbits s ns) (orbits-room s ns) (inl (omega arith))
+  clocks-by-orbits ns = clocks-kept 3096 9216 s (putOrbits s ns) (orbits-room s ns) (inl (omega arith))
 
   pub orbits-by-clocks : (ns : List (Named HeldClock)) → heldOrbitsAt (putClocks s ns) ≡ heldOrbitsAt s
-  orbits-by-clocks ns = orbits-kept 260 3320 s (putClocks s ns) (clocks-room s ns) (inr (omega arith))
+  orbits-by-clocks ns = orbits-kept 36 3096 s (putClocks s ns) (clocks-room s ns) (inr (omega arith))
 
   pub orbits-by-drop : (n : ℕ) → heldOrbitsAt (droppedClocks s n) ≡ heldOrbitsAt s
-  orbits-by-drop n = orbits-kept 260 3320 s (droppedClocks s n) (dropped-room s n) (inr (omega arith))
+  orbits-by-drop n = orbits-kept 36 3096 s (droppedClocks s n) (dropped-room s n) (inr (omega arith))

@@ -12,7 +12,6 @@ use native.Mathlib.Omega.{arith}
 use Rattle.bits.specs.Pick.{pick}
 use Rattle.verdict.proofs.NumberLaws.{number-last}
 use Rattle.frame.specs.Frame.{contentsOf, foreignTo, refusalWith}
-use Rattle.frame.proofs.FrameLaws.{mask-long}
 use Rattle.lookback.specs.Store.{naming, getOr, putAll, kept}
 use Rattle.lookback.proofs.StoreLaws.{flat, putAll-at, LooksBack, store-step, store-idle}
 use Rattle.lent.proofs.HeldLaws.{length-helds}
@@ -81,7 +80,7 @@ module _ (s : List ℕ) (prn : ℕ) (h : List (List ℕ)) (f : List ℕ) (H : Ho
       let c = contentsOf f in
       let os = orbitsOf (c .kind) (c .orbit) in
       ap (λ (xs : List HeldOrbit). getD xs (slot - 1) noOrbit) (taken-orbits s c (H .long))
-      ∙ putAll-at (heldOrbitsAt s) os slot noOrbit p (omega (arith, length-helds heldOrbitOf 24 s 3320))
+      ∙ putAll-at (heldOrbitsAt s) os slot noOrbit p (omega (arith, length-helds heldOrbitOf 24 s 3096))
       ∙ ap (getOr (naming slot os)) (sym (orbit-listed s slot p q) ∙ H .orbit slot p q)
       ∙ rw a
 
@@ -93,7 +92,7 @@ module _ (s : List ℕ) (prn : ℕ) (h : List (List ℕ)) (f : List ℕ) (H : Ho
       ap (λ (xs : List HeldClock). getD xs (slot - 1) noClock) (taken-clocks s c (H .long))
       ∙ ap (λ (m : HeldMask). getD (putAll (kept clocksKept sameMask (maskOf c) m (heldClocksAt s)) (clocksOf m (c .kind) (c .clock))) (slot - 1) noClock) (H .mask)
       ∙ ap (λ (o : Option HeldMask). getD (putAll (kept clocksKept sameMask o (maskInForce prn h) (heldClocksAt s)) ns) (slot - 1) noClock) (taken-on a)
-      ∙ store-step (clocks-back prn) f h (heldClocksAt s) ns slot p (omega (arith, length-helds heldClockOf 12 s 260)) (sym (clock-listed s slot p q) ∙ H .clock slot p q) (rw a)
+      ∙ store-step (clocks-back prn) f h (heldClocksAt s) ns slot p (omega (arith, length-helds heldClockOf 12 s 36)) (sym (clock-listed s slot p q) ∙ H .clock slot p q) (rw a)
 
   step-taken : accepted prn h f ≡ true → Holds (takenBytes s (contentsOf f)) prn (f ∷ h)
   unfolding maskInForce
@@ -103,7 +102,7 @@ module _ (s : List ℕ) (prn : ℕ) (h : List (List ℕ)) (f : List ℕ) (H : Ho
       record {
         long = k .long ∙ H .long;
         own = k .out 0 (inl (omega arith)) ∙ H .own;
-        mask = taken-mask s c (H .long) (mask-long f) ∙ ap (getOr (maskOf c)) (H .mask) ∙ ap (λ (o : Option HeldMask). getOr o (maskInForce prn h)) (taken-on a);
+        mask = taken-mask s c (H .long) ∙ ap (getOr (maskOf c)) (H .mask) ∙ ap (λ (o : Option HeldMask). getOr o (maskInForce prn h)) (taken-on a);
         orbit = λ slot p q. orbit-listed (takenBytes s c) slot p q ∙ step-orbit a slot p q;
         clock = λ slot p q. clock-listed (takenBytes s c) slot p q ∙ step-clock a slot p q;
       }

@@ -25,7 +25,8 @@ use Rattle.held_orbits.specs.declared.HeldOrbit.{HeldOrbit}
 use Rattle.held_clocks.proofs.ClockLaws.{clocks-view, clocks-dropped, clock-room, clocks-room, dropped-room, clocks-kept, zero-clock}
 use Rattle.held_orbits.proofs.OrbitLaws.{orbits-view, orbits-room, orbits-kept, zero-orbit}
 use Rattle.in_force.proofs.ApartLaws.{clocks-by-orbits, orbits-by-clocks}
-use Rattle.held_mask.specs.Mask.{HeldMask, heldMask, noHeldMask, sameMask, bitsAt, maskAt}
+use Rattle.mask_bits.specs.Bits.{bitsAt}
+use Rattle.held_mask.specs.Mask.{HeldMask, heldMask, noHeldMask, sameMask, maskAt}
 use Rattle.held_mask.proofs.MaskLaws.{mask-room, mask-view, mask-kept, zero-mask}
 use Rattle.lent.proofs.ZeroLaws.{getD-zeros}
 use Rattle.places.specs.Keeps.{maskOf, orbitsOf, clocksOf}
@@ -47,11 +48,11 @@ module _ (s : List ℕ) (c : Contents) where
 abbrev left : List ℕ → MaskPart → List ℕ
 left s m = pick (sameMask (maskAt s) (heldMask m)) s (droppedClocks s 255)
 
-left-room : (s : List ℕ) (m : MaskPart) → Kept 260 3320 s (left s m)
+left-room : (s : List ℕ) (m : MaskPart) → Kept 36 3096 s (left s m)
 left-room s m = go (sameMask (maskAt s) (heldMask m))
   where
-    go : (b : Bool) → Kept 260 3320 s (pick b s (droppedClocks s 255))
-    go true = kept-same 260 3320 s
+    go : (b : Bool) → Kept 36 3096 s (pick b s (droppedClocks s 255))
+    go true = kept-same 36 3096 s
     go false = dropped-room s 255
 
 left-view : (s : List ℕ) (m : MaskPart) → length s ≡ size → heldClocksAt (left s m) ≡ kept clocksKept sameMask (some (heldMask m)) (maskAt s) (heldClocksAt s)
@@ -62,47 +63,47 @@ left-view s m long = go (sameMask (maskAt s) (heldMask m))
     go true = refl
     go false = clocks-dropped s long
 
-mask-bytes-room : (s : List ℕ) (m : MaskPart) → Kept 1 9440 s (maskBytes s m)
+mask-bytes-room : (s : List ℕ) (m : MaskPart) → Kept 1 9216 s (maskBytes s m)
 unfolding maskBytes
 mask-bytes-room s m =
-    kept-trans (kept-wide 1 9440 (left-room s m) (omega arith) (omega arith)) (kept-wide 1 9440 (mask-room (left s m) m) (omega arith) (omega arith))
+    kept-trans (kept-wide 1 9216 (left-room s m) (omega arith) (omega arith)) (kept-wide 1 9216 (mask-room (left s m) m) (omega arith) (omega arith))
 
 module _ (s : List ℕ) (m : MaskPart) (long : length s ≡ size) where
-  mask-bytes-mask : length (m .bits) ≡ 255 → maskAt (maskBytes s m) ≡ heldMask m
+  mask-bytes-mask : maskAt (maskBytes s m) ≡ heldMask m
   unfolding maskBytes
-  mask-bytes-mask e = mask-view (left s m) m (left-room s m .long ∙ long) e
+  mask-bytes-mask = mask-view (left s m) m (left-room s m .long ∙ long)
 
   mask-bytes-orbits : heldOrbitsAt (maskBytes s m) ≡ heldOrbitsAt s
   unfolding maskBytes
-  mask-bytes-orbits = orbits-kept 1 259 (left s m) _ (mask-room (left s m) m) (inr (omega arith)) ∙ orbits-kept 260 3320 s (left s m) (left-room s m) (inr (omega arith))
+  mask-bytes-orbits = orbits-kept 1 36 (left s m) _ (mask-room (left s m) m) (inr (omega arith)) ∙ orbits-kept 36 3096 s (left s m) (left-room s m) (inr (omega arith))
 
   mask-bytes-clocks : heldClocksAt (maskBytes s m) ≡ kept clocksKept sameMask (some (heldMask m)) (maskAt s) (heldClocksAt s)
   unfolding maskBytes
-  mask-bytes-clocks = clocks-kept 1 259 (left s m) _ (mask-room (left s m) m) (inr (omega arith)) ∙ left-view s m long
+  mask-bytes-clocks = clocks-kept 1 36 (left s m) _ (mask-room (left s m) m) (inr (omega arith)) ∙ left-view s m long
 
 -- ---- records taken
 -- a clock put leaves the bits of the mask
 pub clock-bits : (s : List ℕ) (slot : ℕ) (h : HeldClock) → bitsAt (putClock s slot h) ≡ bitsAt s
-clock-bits s slot h = ap (λ (m : HeldMask). m .bits) (mask-kept 260 3320 s (putClock s slot h) (clock-room s slot h) (inl (omega arith)))
+clock-bits s slot h = ap (λ (m : HeldMask). m .bits) (mask-kept 36 3096 s (putClock s slot h) (clock-room s slot h) (inl (omega arith)))
 
-records-room : (s : List ℕ) (ks : List (Named HeldClock)) (os : List (Named HeldOrbit)) → Kept 260 9440 s (putOrbits (putClocks s ks) os)
+records-room : (s : List ℕ) (ks : List (Named HeldClock)) (os : List (Named HeldOrbit)) → Kept 36 9216 s (putOrbits (putClocks s ks) os)
 records-room s ks os =
-    kept-trans (kept-wide 260 9440 (clocks-room s ks) (omega arith) (omega arith)) (kept-wide 260 9440 (orbits-room (putClocks s ks) os) (omega arith) (omega arith))
+    kept-trans (kept-wide 36 9216 (clocks-room s ks) (omega arith) (omega arith)) (kept-wide 36 9216 (orbits-room (putClocks s ks) os) (omega arith) (omega arith))
 
 -- ---- THE LAWS: what the bytes say when contents are taken
 -- nothing but the mask, the clocks and the orbits changes
-pub taken-room : (s : List ℕ) (c : Contents) → Kept 1 9440 s (takenBytes s c)
+pub taken-room : (s : List ℕ) (c : Contents) → Kept 1 9216 s (takenBytes s c)
 taken-room s c =
     dite (ℕ-discrete (c .kind) 1)
     (λ k. rw (taken-1 s c k) (mask-bytes-room s (c .mask)))
-    (λ k. rw (taken-other s c k) (kept-wide 1 9440 (records-room s _ _) (omega arith) (omega arith)))
+    (λ k. rw (taken-other s c k) (kept-wide 1 9216 (records-room s _ _) (omega arith) (omega arith)))
 
 module _ (s : List ℕ) (c : Contents) (long : length s ≡ size) where
-  pub taken-mask : length (c .mask .bits) ≡ 255 → maskAt (takenBytes s c) ≡ getOr (maskOf c) (maskAt s)
-  taken-mask e =
+  pub taken-mask : maskAt (takenBytes s c) ≡ getOr (maskOf c) (maskAt s)
+  taken-mask =
       dite (ℕ-discrete (c .kind) 1)
-      (λ k. ap maskAt (taken-1 s c k) ∙ mask-bytes-mask s (c .mask) long e ∙ rw (mask-1 c k))
-      (λ k. ap maskAt (taken-other s c k) ∙ mask-kept 260 9440 s _ (records-room s _ _) (inl (omega arith)) ∙ rw (mask-other c k))
+      (λ k. ap maskAt (taken-1 s c k) ∙ mask-bytes-mask s (c .mask) long ∙ rw (mask-1 c k))
+      (λ k. ap maskAt (taken-other s c k) ∙ mask-kept 36 9216 s _ (records-room s _ _) (inl (omega arith)) ∙ rw (mask-other c k))
 
   pub taken-orbits : heldOrbitsAt (takenBytes s c) ≡ putAll (heldOrbitsAt s) (orbitsOf (c .kind) (c .orbit))
   unfolding putAll
@@ -132,10 +133,10 @@ module _ (s : List ℕ) (c : Contents) (long : length s ≡ size) where
 -- ---- the record of a slot is its element of the list
 module _ (s : List ℕ) (slot : ℕ) (p : 1 ≤ slot) (q : slot ≤ 255) where
   pub clock-listed : heldClockAt s slot ≡ getD (heldClocksAt s) (slot - 1) noClock
-  clock-listed = let e : slot - 1 + 1 ≡ slot = omega arith in sym (getD-helds heldClockOf 12 s 260 (slot - 1) noClock (omega arith) ∙ ap (heldClockAt s) e)
+  clock-listed = let e : slot - 1 + 1 ≡ slot = omega arith in sym (getD-helds heldClockOf 12 s 36 (slot - 1) noClock (omega arith) ∙ ap (heldClockAt s) e)
 
   pub orbit-listed : heldOrbitAt s slot ≡ getD (heldOrbitsAt s) (slot - 1) noOrbit
-  orbit-listed = let e : slot - 1 + 1 ≡ slot = omega arith in sym (getD-helds heldOrbitOf 24 s 3320 (slot - 1) noOrbit (omega arith) ∙ ap (heldOrbitAt s) e)
+  orbit-listed = let e : slot - 1 + 1 ≡ slot = omega arith in sym (getD-helds heldOrbitOf 24 s 3096 (slot - 1) noOrbit (omega arith) ∙ ap (heldOrbitAt s) e)
 
 -- ---- a fresh ledger: the PRN, and nothing else
 module _ (s : List ℕ) (prn : ℕ) where
@@ -157,9 +158,9 @@ module _ (s : List ℕ) (prn : ℕ) where
     pub fresh-clock : heldClockAt (fresh s prn) slot ≡ noClock
     fresh-clock =
         let zeros = replicate {A = ℕ} (length s) 0 in
-        held-kept heldClockOf 12 260 0 1 zeros (fresh s prn) fresh-room (inr (omega arith)) slot p q ∙ zero-clock zeros (getD-zeros (length s)) slot
+        held-kept heldClockOf 12 36 0 1 zeros (fresh s prn) fresh-room (inr (omega arith)) slot p q ∙ zero-clock zeros (getD-zeros (length s)) slot
 
     pub fresh-orbit : heldOrbitAt (fresh s prn) slot ≡ noOrbit
     fresh-orbit =
         let zeros = replicate {A = ℕ} (length s) 0 in
-        held-kept heldOrbitOf 24 3320 0 1 zeros (fresh s prn) fresh-room (inr (omega arith)) slot p q ∙ zero-orbit zeros (getD-zeros (length s)) slot
+        held-kept heldOrbitOf 24 3096 0 1 zeros (fresh s prn) fresh-room (inr (omega arith)) slot p q ∙ zero-orbit zeros (getD-zeros (length s)) slot

@@ -1,4 +1,4 @@
--- docs/FORM.md: what a ledger's lent bytes become. Every byte string of 9440 bytes is a ledger.
+-- docs/FORM.md: what a ledger's lent bytes become. Every byte string of 9216 bytes is a ledger.
 use Prim.Native.Nat.{ℕ, zero, suc, _+_, _*_, _/_, _≤_}
 use mathlib.Core.Path.{_≡_}
 use mathlib.Core.Bool.{true, false}

@@ -4,4 +4,4 @@ pub mod replay;
 pub mod take;
 
 // The lent bytes of a ledger; docs/FORM.md says what they hold. Zero bytes hold nothing.
-pub type Ledger = [u8; 9440];
+pub type Ledger = [u8; 9216];

@@ -64,10 +64,10 @@ fn clocks_by_place(t: &mut [u8], kind: u8, p: ClockPart)
     let mut n = first_place(kind, p);
     let mut j: usize = 0;
     while (j < 23) & (j < count) {
-        let slot = held_mask::nth_after(t, from, n);
+        let slot = mask_bits::nth_after(t, from, n);
         let h = held_clock(true, p.epoch, p.ssr, ks[j]);
         held_clocks::put_clock(t, slot, h);
-        from = held_mask::resumed(from, n, slot);
+        from = mask_bits::resumed(from, n, slot);
         n = Place(1);
         j += 1;
     }

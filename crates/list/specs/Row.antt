@@ -13,7 +13,8 @@ use Rattle.held_clocks.specs.Clocks.{heldClockAt}
 use Rattle.held_orbits.specs.Orbits.{heldOrbitAt}
 use Rattle.held_clocks.specs.declared.HeldClock.{HeldClock}
 use Rattle.held_orbits.specs.declared.HeldOrbit.{HeldOrbit}
-use Rattle.held_mask.specs.Mask.{HeldMask, bitAtSlot, maskAt}
+use Rattle.mask_bits.specs.Bits.{bitAtSlot}
+use Rattle.held_mask.specs.Mask.{HeldMask, maskAt}
 use Rattle.list.specs.declared.row.Row.{Row}
 use Rattle.list.specs.declared.row.RowAnswer.{RowAnswer}
 use Rattle.list.specs.declared.row.RowAnswer.the-variants.{Found, Refused}

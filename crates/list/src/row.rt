@@ -96,7 +96,7 @@ pub fn slot_row(ledger: &[u8], slot: Slot, issue: u16) -> RowAnswer
     if !held_mask::has_mask(ledger) {
         return RowAnswer::Refused(18);
     }
-    if !held_mask::has_bit(ledger, slot) {
+    if !mask_bits::has_bit(ledger, slot) {
         return RowAnswer::Refused(18);
     }
     let o = held_orbits::get_orbit(ledger, slot);

@@ -78,7 +78,7 @@ fn place_refusal(t: &[u8], kind: u8, p: ClockPart) -> u8
     if held_mask::mask_iodp(t) != p.iodp {
         return 14;
     }
-    if held_mask::set_count(t) < place_to_check(kind, p).0 {
+    if mask_bits::set_count(t) < place_to_check(kind, p).0 {
         return place_number(kind);
     }
     0
@@ -90,7 +90,7 @@ pub fn place_verdict(t: &[u8], kind: u8, p: ClockPart) -> Verdict
 {
     let n = place_refusal(t, kind, p);
     if n == 19 {
-        return Verdict::Places(held_mask::set_count(t));
+        return Verdict::Places(mask_bits::set_count(t));
     }
     verdict_of(n)
 }

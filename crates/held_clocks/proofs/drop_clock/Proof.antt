@@ -24,7 +24,7 @@ returns c =
     let c6 = c .before .before .before .before .before .before in
     let a = c6 .before .before .before .args in
     let e : heldClockAt (a .t .now) (a .slot .0) .placed ≡ true = rw (c6 .get-clock .ensures) at (c .before .before .before .before .before .if1 .taken) in
-    rw (c .before .before .put-clock .ensures, c .before .before .before .no-clock .ensures) (sym (drop-yes clocksKept heldClockOf heldClockBytes 12 (a .t .now) 260 (a .slot .0) e))
+    rw (c .before .before .put-clock .ensures, c .before .before .before .no-clock .ensures) (sym (drop-yes clocksKept heldClockOf heldClockBytes 12 (a .t .now) 36 (a .slot .0) e))
 
 same-length-2 : tie.Need-same-length-2
 same-length-2 c = search needs
@@ -33,7 +33,7 @@ returns-2 : tie.Need-returns-2
 returns-2 c =
     let a = c .before .before .before .before .args in
     let e : heldClockAt (a .t .now) (a .slot .0) .placed ≡ false = rw (c .before .get-clock .ensures) at (c .if1 .left) in
-    sym (drop-no clocksKept heldClockOf heldClockBytes 12 (a .t .now) 260 (a .slot .0) e)
+    sym (drop-no clocksKept heldClockOf heldClockBytes 12 (a .t .now) 36 (a .slot .0) e)
 
 pub drop-clock-spec : {M : Type 1} → statement M
 drop-clock-spec =

@@ -17,7 +17,7 @@ abbrev μ-loop : tie.MeasureT-loop
 μ-loop t₀ i₀ t i = 255 - i
 
 loop-holds : tie.Need-loop-holds Inv-loop μ-loop
-loop-holds c = (omega arith, refl, sym (drop-start clocksKept heldClockOf heldClockBytes 12 _ 260))
+loop-holds c = (omega arith, refl, sym (drop-start clocksKept heldClockOf heldClockBytes 12 _ 36))
 
 add-t7 : tie.Need-add-t7 Inv-loop μ-loop
 add-t7 c = search needs
@@ -35,7 +35,7 @@ loop-again : tie.Need-loop-again Inv-loop μ-loop
 loop-again c =
     let l = c .before .before .before .before .before .loop in
     let a = c .before .before .before .before .before .before .before .args in
-    (omega arith, c .before .before .drop-clock .kept .0 ∙ l .inv .1, c .before .before .drop-clock .ensures ∙ ap (λ (s : List ℕ). dropClock s (l .i + 1)) (l .inv .2) ∙ sym (drop-step clocksKept heldClockOf heldClockBytes 12 (a .t .now) 260 (l .i)))
+    (omega arith, c .before .before .drop-clock .kept .0 ∙ l .inv .1, c .before .before .drop-clock .ensures ∙ ap (λ (s : List ℕ). dropClock s (l .i + 1)) (l .inv .2) ∙ sym (drop-step clocksKept heldClockOf heldClockBytes 12 (a .t .now) 36 (l .i)))
 
 same-length : tie.Need-same-length Inv-loop μ-loop
 same-length c = search needs

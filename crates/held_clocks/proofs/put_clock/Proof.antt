@@ -9,7 +9,7 @@ use Rattle.held_clocks.proofs.put_clock.Statement.{statement}
 use Rattle.held_clocks.proofs.put_clock.Tie as tie
 
 returns : tie.Need-returns
-returns c = sym (put-none heldClockOf heldClockBytes 12 clock-long _ 260 _ _ (omega arith))
+returns c = sym (put-none heldClockOf heldClockBytes 12 clock-long _ 36 _ _ (omega arith))
 
 clock-offset-requires : tie.Need-clock-offset-requires
 clock-offset-requires c κs = search needs
@@ -30,7 +30,7 @@ returns-2 : tie.Need-returns-2
 returns-2 c =
     let c6 = c .before .before .before .before .before .before in
     let a = c6 .before .before .before .before .args in
-    rw (c .before .before .store .ensures, c6 .clock-offset .ensures, c .before .before .before .before .before .clock-bytes .ensures) (sym (put-slot heldClockOf heldClockBytes 12 clock-long (a .t .now) 260 (a .slot .0) (a .h) (omega arith) (omega arith)))
+    rw (c .before .before .store .ensures, c6 .clock-offset .ensures, c .before .before .before .before .before .clock-bytes .ensures) (sym (put-slot heldClockOf heldClockBytes 12 clock-long (a .t .now) 36 (a .slot .0) (a .h) (omega arith) (omega arith)))
 
 pub put-clock-spec : {M : Type 1} → statement M
 put-clock-spec =

@@ -1,12 +1,9 @@
--- The bits' bytes, then the three before them.
+-- The mask's bytes, then the three before them.
 use borrow.Author.Needs.{needs}
 use mathlib.Core.Path.{sym}
 use Rattle.held_mask.proofs.MaskLaws.{mask-put}
 use Rattle.held_mask.proofs.put_mask.Statement.{statement}
 use Rattle.held_mask.proofs.put_mask.Tie as tie
-
-flags-of-requires : tie.Need-flags-of-requires
-flags-of-requires c κs = search needs
 
 slice-aggregate-store : tie.Need-slice-aggregate-store
 slice-aggregate-store c = search needs
@@ -26,15 +23,13 @@ same-length c = search needs
 returns : tie.Need-returns
 returns c =
     let c7 = c .before .before .before .before .before .before .before in
-    let f = c7 .before .before .before .flags-of in
-    let a = c7 .before .before .before .before .before .before .args in
-    rw (c .before .before .store2 .ensures, c7 .store .ensures, f .ensures) (sym (mask-put (a .t .now) (a .m)))
+    let a = c7 .before .before .before .before .before .args in
+    rw (c .before .before .store2 .ensures, c7 .store .ensures) (sym (mask-put (a .t .now) (a .m) (search needs)))
 
 pub put-mask-spec : {M : Type 1} → statement M
 put-mask-spec =
     tie.close
     (tie.spec
-    flags-of-requires
     slice-aggregate-store
     store-requires
     slice-aggregate-store-2

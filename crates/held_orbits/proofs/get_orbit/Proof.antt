@@ -12,7 +12,7 @@ use Rattle.held_orbits.proofs.get_orbit.Statement.{statement}
 use Rattle.held_orbits.proofs.get_orbit.Tie as tie
 
 -- an offset lies within the ledger
-small : (c : tie.After-orbit-offset) → c .orbit-offset .result < 9440
+small : (c : tie.After-orbit-offset) → c .orbit-offset .result < 9216
 small c = search needs
 
 orbit-offset-requires : tie.Need-orbit-offset-requires

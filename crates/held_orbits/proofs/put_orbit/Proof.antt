@@ -9,7 +9,7 @@ use Rattle.held_orbits.proofs.put_orbit.Statement.{statement}
 use Rattle.held_orbits.proofs.put_orbit.Tie as tie
 
 returns : tie.Need-returns
-returns c = sym (put-none heldOrbitOf heldOrbitBytes 24 orbit-long _ 3320 _ _ (omega arith))
+returns c = sym (put-none heldOrbitOf heldOrbitBytes 24 orbit-long _ 3096 _ _ (omega arith))
 
 orbit-offset-requires : tie.Need-orbit-offset-requires
 orbit-offset-requires c κs = search needs
@@ -30,7 +30,7 @@ returns-2 : tie.Need-returns-2
 returns-2 c =
     let c6 = c .before .before .before .before .before .before in
     let a = c6 .before .before .before .before .args in
-    rw (c .before .before .store .ensures, c6 .orbit-offset .ensures, c .before .before .before .before .before .orbit-bytes .ensures) (sym (put-slot heldOrbitOf heldOrbitBytes 24 orbit-long (a .t .now) 3320 (a .slot .0) (a .h) (omega arith) (omega arith)))
+    rw (c .before .before .store .ensures, c6 .orbit-offset .ensures, c .before .before .before .before .before .orbit-bytes .ensures) (sym (put-slot heldOrbitOf heldOrbitBytes 24 orbit-long (a .t .now) 3096 (a .slot .0) (a .h) (omega arith) (omega arith)))
 
 pub put-orbit-spec : {M : Type 1} → statement M
 put-orbit-spec =

@@ -5,7 +5,7 @@ use Prim.Native.Nat.{_≤_}
 use mathlib.Core.Path.{sym, _∙_}
 use Rattle.records.specs.Slots.{setCount}
 use Rattle.held_mask.specs.Mask.{maskAt}
-use Rattle.held_mask.proofs.MaskLaws.{length-bits}
+use Rattle.mask_bits.proofs.BitLaws.{length-bits}
 use Rattle.places.proofs.KeepLaws.{place-free, place-absent, place-ssr, place-iodp, place-past, place-good, count-le, as-past, as-within}
 use Rattle.places.proofs.place_refusal.Statement.{statement}
 use Rattle.places.proofs.place_refusal.Tie as tie

@@ -28,7 +28,7 @@ returns-2 : tie.Need-returns-2
 returns-2 c =
     let a = c .before .before .before .before .before .before .before .args in
     let yes = sym (c .before .before .before .before .before .is-prn .ensures) ∙ not-false _ (c .before .before .before .before .if1 .left) in
-    let long : length (a .ledger .now) ≡ 9440 = let g = c .before .before .before .before .before .before .before .good in search needs in
+    let long : length (a .ledger .now) ≡ 9216 = let g = c .before .before .before .before .before .before .before .good in search needs in
     let ran = c .take-log .ensures ∙ ap (λ (s : List ℕ). runBytes s (framesOf (a .log .now))) (c .before .before .make-fresh .ensures) in
     (rw yes, replayed-all (a .ledger .now) (a .prn) (a .log .now) yes long _ ran)
 

@@ -11,9 +11,10 @@ use lib.Seq.{getD-take}
 use Rattle.records.specs.Clock.{blankClock}
 use Rattle.held_clocks.specs.Clocks.{heldClockBytes, putClocks}
 use Rattle.records.specs.Slots.{nthFrom, nthSet}
-use Rattle.held_mask.proofs.PlaceLaws.{walk-on}
-use Rattle.held_mask.proofs.MaskLaws.{length-bits}
-use Rattle.held_mask.specs.Mask.{bitsAt, maskAt}
+use Rattle.mask_bits.proofs.PlaceLaws.{walk-on}
+use Rattle.mask_bits.proofs.BitLaws.{length-bits}
+use Rattle.mask_bits.specs.Bits.{bitsAt}
+use Rattle.held_mask.specs.Mask.{maskAt}
 use Rattle.places.specs.Keeps.{heldClock, byPlace}
 use Rattle.places.proofs.KeepLaws.{length-mapped, turn, stop, as-near, place-step, place-end, clocks-placed, placed-not-7}
 use Rattle.in_force.proofs.ViewLaws.{clock-bits}
@@ -88,7 +89,7 @@ loop-again c =
     let next : first + l .j + 1 ≡ first + (l .j + 1) = omega arith in
     let step =
     rw (getD-take (p .count) (p .clocks) (l .j) blankClock (near .1)) at
-    (place-step heldClockBytes 12 260 (heldClock true (p .epoch) (p .ssr)) records (l .j) blankClock (l .t) (bitsAt (a .t .now)) (first + l .j) within)
+    (place-step heldClockBytes 12 36 (heldClock true (p .epoch) (p .ssr)) records (l .j) blankClock (l .t) (bitsAt (a .t .now)) (first + l .j) within)
     in (
       omega arith,
       l .inv .1,
@@ -113,7 +114,7 @@ returns c =
     let records = take (p .count) (p .clocks) in
     let bits = bitsAt (a .t .now) in
     let end : length records ≤ l .j = ⊎-elim (λ h. omega (arith, length-take (p .count) (p .clocks))) (λ h. omega (arith, length-take (p .count) (p .clocks))) (stop (l .j) (p .count) (c .loop-test .left)) in
-    sym (place-end heldClockBytes 12 260 (heldClock true (p .epoch) (p .ssr)) records (l .j) blankClock (l .t) bits (first + l .j) end)
+    sym (place-end heldClockBytes 12 36 (heldClock true (p .epoch) (p .ssr)) records (l .j) blankClock (l .t) bits (first + l .j) end)
     ∙ l .inv .4
     ∙ ap (λ (n : ℕ). putClocks (a .t .now) (byPlace (heldClock true (p .epoch) (p .ssr)) bits records n)) (c .before .before .first-place .ensures ∙ as-near _ (c0 .pre .1))
     ∙ ap (putClocks (a .t .now)) (sym (clocks-placed (maskAt (a .t .now)) (a .kind) p (placed-not-7 (maskAt (a .t .now)) (a .kind) p (c0 .pre .0)) (c0 .pre .0)))

@@ -51,7 +51,7 @@ loop-again c =
       omega arith,
       l .inv .1,
       c .before .before .put-clock .kept .0 ∙ l .inv .2,
-      rw put (sym (slot-step heldClockBytes 12 260 (heldClock false (p .epoch) (p .ssr)) (p .clocks) (l .j) blankClock (l .t) (λ (k : Clock). k .slot) (omega arith)) ∙ l .inv .3),
+      rw put (sym (slot-step heldClockBytes 12 36 (heldClock false (p .epoch) (p .ssr)) (p .clocks) (l .j) blankClock (l .t) (λ (k : Clock). k .slot) (omega arith)) ∙ l .inv .3),
     )
 
 same-length : tie.Need-same-length Inv-loop μ-loop
@@ -62,7 +62,7 @@ unfolding clocksOf
 returns c =
     let l = c .before .loop in
     let p = c .before .before .before .before .args .p in
-    sym (slot-end heldClockBytes 12 260 (heldClock false (p .epoch) (p .ssr)) (p .clocks) (l .j) blankClock (l .t) (λ (k : Clock). k .slot) (omega arith)) ∙ l .inv .3
+    sym (slot-end heldClockBytes 12 36 (heldClock false (p .epoch) (p .ssr)) (p .clocks) (l .j) blankClock (l .t) (λ (k : Clock). k .slot) (omega arith)) ∙ l .inv .3
 
 pub clocks-by-slot-spec : {M : Type 1} → statement M
 clocks-by-slot-spec =

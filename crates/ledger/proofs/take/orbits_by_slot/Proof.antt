@@ -50,7 +50,7 @@ loop-again c =
       omega arith,
       l .inv .1,
       c .before .before .put-orbit .kept .0 ∙ l .inv .2,
-      rw put (sym (slot-step heldOrbitBytes 24 3320 (heldOrbit (p .epoch) (p .ssr)) (p .orbits) (l .j) blankOrbit (l .t) (λ (o : Orbit). o .slot) (omega arith)) ∙ l .inv .3),
+      rw put (sym (slot-step heldOrbitBytes 24 3096 (heldOrbit (p .epoch) (p .ssr)) (p .orbits) (l .j) blankOrbit (l .t) (λ (o : Orbit). o .slot) (omega arith)) ∙ l .inv .3),
     )
 
 same-length : tie.Need-same-length Inv-loop μ-loop
@@ -61,7 +61,7 @@ unfolding orbitsOf
 returns c =
     let l = c .before .loop in
     let p = c .before .before .before .before .args .p in
-    sym (slot-end heldOrbitBytes 24 3320 (heldOrbit (p .epoch) (p .ssr)) (p .orbits) (l .j) blankOrbit (l .t) (λ (o : Orbit). o .slot) (omega arith)) ∙ l .inv .3
+    sym (slot-end heldOrbitBytes 24 3096 (heldOrbit (p .epoch) (p .ssr)) (p .orbits) (l .j) blankOrbit (l .t) (λ (o : Orbit). o .slot) (omega arith)) ∙ l .inv .3
 
 pub orbits-by-slot-spec : {M : Type 1} → statement M
 orbits-by-slot-spec =

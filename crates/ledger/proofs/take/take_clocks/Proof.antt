@@ -2,7 +2,7 @@ use borrow.Author.Needs.{needs}
 use mathlib.Core.Path.{sym, _∙_}
 use Rattle.held_clocks.specs.Clocks.{heldClockBytes}
 use Rattle.held_mask.specs.Mask.{maskAt}
-use Rattle.held_mask.proofs.MaskLaws.{length-bits}
+use Rattle.mask_bits.proofs.BitLaws.{length-bits}
 use Rattle.places.proofs.KeepLaws.{first-near, clocks-none, put-no}
 use Rattle.ledger.proofs.take.take_clocks.Statement.{statement}
 use Rattle.ledger.proofs.take.take_clocks.Tie as tie
@@ -36,7 +36,7 @@ returns-3 : tie.Need-returns-3
 returns-3 c =
     let a = c .before .before .before .before .args in
     rw (clocks-none (maskAt (a .t .now)) (a .kind) (a .p) (c .before .before .if1 .left) (sym (c .before .needs-mask .ensures) ∙ c .if2 .left))
-    (sym (put-no heldClockBytes 12 260 (a .t .now)))
+    (sym (put-no heldClockBytes 12 36 (a .t .now)))
 
 pub take-clocks-spec : {M : Type 1} → statement M
 take-clocks-spec =

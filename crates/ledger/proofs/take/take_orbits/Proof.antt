@@ -19,7 +19,7 @@ returns c = rw (c .before .before .before .before .if1 .taken) (c .before .befor
 returns-2 : tie.Need-returns-2
 returns-2 c =
     let a = c .before .before .args in
-    rw (orbits-none (a .kind) (a .p) (c .if1 .left)) (sym (put-no heldOrbitBytes 24 3320 (a .t .now)))
+    rw (orbits-none (a .kind) (a .p) (c .if1 .left)) (sym (put-no heldOrbitBytes 24 3096 (a .t .now)))
 
 pub take-orbits-spec : {M : Type 1} → statement M
 take-orbits-spec = tie.close (tie.spec orbits-by-slot-requires same-length returns returns-2)

@@ -1,6 +1,6 @@
 use borrow.Author.Needs.{needs}
-use Rattle.held_mask.proofs.nth_set.Statement.{statement}
-use Rattle.held_mask.proofs.nth_set.Tie as tie
+use Rattle.mask_bits.proofs.nth_set.Statement.{statement}
+use Rattle.mask_bits.proofs.nth_set.Tie as tie
 
 nth-after-requires : tie.Need-nth-after-requires
 nth-after-requires c κs = search needs

@@ -15,24 +15,24 @@ use Rattle.records.specs.Slots.{nthFrom}
 use Rattle.records.proofs.SlotLaws.{nth-end}
 
 -- a place that is not the first set bit's
-more : (bs : List Bool) (b n : ℕ) → n ≢ 1 → nthFrom (true ∷ bs) b n ≡ nthFrom bs (b + 1) (n - 1)
+pub more : (bs : List Bool) (b n : ℕ) → n ≢ 1 → nthFrom (true ∷ bs) b n ≡ nthFrom bs (b + 1) (n - 1)
 unfolding nthFrom
 more bs b n q = rw (ne-eqb n 1 q)
 
-one : (bs : List Bool) (b : ℕ) → nthFrom (true ∷ bs) b 1 ≡ b
+pub one : (bs : List Bool) (b : ℕ) → nthFrom (true ∷ bs) b 1 ≡ b
 unfolding nthFrom
 one bs b = refl
 
-clear : (bs : List Bool) (b n : ℕ) → nthFrom (false ∷ bs) b n ≡ nthFrom bs (b + 1) n
+pub clear : (bs : List Bool) (b n : ℕ) → nthFrom (false ∷ bs) b n ≡ nthFrom bs (b + 1) n
 unfolding nthFrom
 clear bs b n = refl
 
-none-in : (b n : ℕ) → nthFrom [] b n ≡ 0
+pub none-in : (b n : ℕ) → nthFrom [] b n ≡ 0
 unfolding nthFrom
 none-in b n = refl
 
 -- a slot lies among those that the bits stand for
-nth-from : (bs : List Bool) (b n : ℕ) → nthFrom bs b n ≢ 0 → b ≤ nthFrom bs b n
+pub nth-from : (bs : List Bool) (b n : ℕ) → nthFrom bs b n ≢ 0 → b ≤ nthFrom bs b n
 nth-from [] b n h = absurd (h (none-in b n))
 nth-from (false ∷ bs) b n h =
     rw (clear bs b n) (let l = nth-from bs (b + 1) n (λ e. h (clear bs b n ∙ e)) in omega (arith, l))

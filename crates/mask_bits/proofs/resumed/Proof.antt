@@ -1,7 +1,7 @@
 use mathlib.Core.Path.{refl}
 use borrow.Author.Tests.{eq-eqb, ne-eqb}
-use Rattle.held_mask.proofs.resumed.Statement.{statement}
-use Rattle.held_mask.proofs.resumed.Tie as tie
+use Rattle.mask_bits.proofs.resumed.Statement.{statement}
+use Rattle.mask_bits.proofs.resumed.Tie as tie
 
 returns : tie.Need-returns
 returns c = rw (eq-eqb _ _ (c .if1 .taken)) refl

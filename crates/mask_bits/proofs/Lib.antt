@@ -1,0 +1,4 @@
+pub mod ManyLaws
+pub mod BitLaws
+pub mod PlaceLaws
+pub mod StayLaws
