@@ -9,7 +9,7 @@ use Rattle.mask_bits.specs.Bits.{bitAtSlot}
 use Rattle.held_mask.specs.Mask.{HeldMask}
 use Rattle.held_clocks.specs.declared.HeldClock.{HeldClock}
 use Rattle.held_orbits.specs.declared.HeldOrbit.{HeldOrbit}
-use Rattle.list.specs.Row.{isKnown, usable, agrees, isAssigned, qualifies}
+use Rattle.row.specs.Row.{isKnown, usable, agrees, isAssigned, qualifies}
 use Rattle.absent.specs.declared.Why.{Why}
 use Rattle.absent.specs.declared.Why.the-variants.{Listed, Orbit, Clock, Ssr, Corr, Ura, Unusable, Issue}
 use Rattle.absent.specs.Why.{whyOf, Reasoned}

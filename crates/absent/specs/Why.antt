@@ -11,7 +11,7 @@ use Rattle.held_clocks.specs.Clocks.{heldClockAt}
 use Rattle.held_orbits.specs.Orbits.{heldOrbitAt}
 use Rattle.held_clocks.specs.declared.HeldClock.{HeldClock}
 use Rattle.held_orbits.specs.declared.HeldOrbit.{HeldOrbit}
-use Rattle.list.specs.Row.{isKnown, usable, isAssigned, qualifies}
+use Rattle.row.specs.Row.{isKnown, usable, isAssigned, qualifies}
 use Rattle.absent.specs.declared.Why.{Why}
 use Rattle.absent.specs.declared.Why.the-variants.{Listed, Orbit, Clock, Ssr, Corr, Ura, Unusable, Issue}
 

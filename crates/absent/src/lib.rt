@@ -3,9 +3,9 @@ ghost use mathlib.Core.Path.{_≡_};
 ghost use Rattle.absent.specs.Why.{whyOf, whyHeld};
 use held_clocks::HeldClock;
 use held_orbits::HeldOrbit;
-use list::row::is_known;
-use list::row::is_usable;
-use records::slots::Slot;
+use row::is_known;
+use row::is_usable;
+use slots::Slot;
 
 // The reason, or Listed where there is none.
 pub enum Why {

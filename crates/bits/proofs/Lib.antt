@@ -11,3 +11,5 @@ pub mod SomeLaws
 pub mod ByteLaws
 pub mod WindowLaws
 pub mod TestLaws
+pub mod SignLaws
+pub mod BytesStay

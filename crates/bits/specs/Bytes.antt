@@ -6,6 +6,10 @@ use mathlib.Core.List.{List, [], _∷_}
 use lib.ListN.{getD, set, length}
 use Rattle.bits.specs.Table.{table}
 
+-- every element is a byte
+abbrev pub Bytes : List ℕ → Type 0
+Bytes s = (j : ℕ) → getD s j 0 < 256
+
 -- the bytes with those of r stored from `at` on
 unfoldable pub storeAt : List ℕ → ℕ → List ℕ → List ℕ
 storeAt s at [] = s

@@ -12,11 +12,11 @@ use borrow.Author.Tests.{eq-eqb, ne-eqb}
 use Rattle.bits.specs.Bytes.{storeAt}
 use Rattle.lookback.specs.Walk.{toList, rowsFrom}
 use Rattle.lookback.proofs.WalkLaws.{rows-step, rows-end}
-use Rattle.list.specs.Row.{rowSays, answerOf}
+use Rattle.row.specs.Row.{rowSays, answerOf}
 use Rattle.list.specs.Rows.{foundCount}
-use Rattle.list.specs.declared.row.Row.{Row}
-use Rattle.list.specs.declared.row.RowAnswer.{RowAnswer}
-use Rattle.list.specs.declared.row.RowAnswer.the-variants.{Found, Refused}
+use Rattle.row.specs.declared.Row.{Row}
+use Rattle.row.specs.declared.RowAnswer.{RowAnswer}
+use Rattle.row.specs.declared.RowAnswer.the-variants.{Found, Refused}
 use Rattle.flat_forms.specs.Write.{rowBytes, contentsBytes}
 use Rattle.flat_forms.proofs.StoreLaws.{store-two}
 use Rattle.verdict.specs.Verdict.{numberIn, refusedBy}
@@ -25,7 +25,7 @@ use Rattle.frame.specs.Frame.{refusalWith, readWith, readFrame, isPrn}
 use Rattle.frame.proofs.VerdictLaws.{frame-quiet}
 use Rattle.held_mask.specs.Size.{size}
 use Rattle.in_force.specs.Bytes.{fresh, takeSays, takeBytes}
-use Rattle.list.specs.Issues.{issuesRefusal}
+use Rattle.issues.specs.Issues.{issuesRefusal}
 use Rattle.list.specs.Rows.{listIn, rowOfSlotAnswer}
 use Rattle.writing.specs.Write.{writeRefusal, written}
 use Rattle.from_flat.specs.Read.{flatContentsOf}

@@ -14,9 +14,9 @@ use Rattle.frame.specs.Frame.{readFrame}
 use Rattle.held_mask.specs.Size.{size}
 use Rattle.ledger.specs.Open.{openRefusal, openBytes}
 use Rattle.in_force.specs.Bytes.{fresh, takeSays, takeBytes, frameAt, framesTo, framesOf, runBytes}
-use Rattle.list.specs.Issues.{issuesRefusal}
+use Rattle.issues.specs.Issues.{issuesRefusal}
 use Rattle.list.specs.Rows.{listIn, rowOfSlotAnswer}
-use Rattle.list.specs.declared.row.Row.{Row}
+use Rattle.row.specs.declared.Row.{Row}
 use Rattle.writing.specs.Write.{writeRefusal, written}
 use Rattle.from_flat.specs.Read.{flatContentsOf}
 use Rattle.flat_forms.specs.Write.{contentsBytes, rowBytes}

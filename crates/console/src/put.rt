@@ -1,7 +1,7 @@
 // Text put into a lent room at a cursor. Each function answers the cursor after it, which is never past the room's end;
 // what does not fit is left out.
 ghost use Rattle.io.specs.Counts.{Counts};
-use records::ura::Ura;
+use ura::Ura;
 use verdict::Verdict;
 
 // The cursor itself, or the room's end where it lies past that.

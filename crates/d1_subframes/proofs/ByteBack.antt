@@ -1,47 +1,20 @@
 -- Bytes are what the fields of a row that covers them say: for any row.
-use mathlib.Core.Path.{_≡_, sym, ap, _∙_, subst}
+use mathlib.Core.Path.{_≡_, sym, _∙_, subst}
 use mathlib.Core.Logic.{dite}
-use Prim.Native.Nat.{ℕ, zero, suc, _+_, _-_, _*_, _/_, _%_, _^_, _≤_, _<_}
+use Prim.Native.Nat.{ℕ, zero, suc, _+_, _-_, _*_, _^_, _≤_, _<_}
 use mathlib.Core.List.{List, [], _∷_}
-use native.Mathlib.Nat.{not-suc-le-zero, mod-eq-of-lt, div-one, add-zero}
-use native.Mathlib.Decide.{decLt, ℕ-discrete}
+use native.Mathlib.Nat.{not-suc-le-zero}
+use native.Mathlib.Decide.{decLt}
 use native.Mathlib.Omega.{arith}
-use lib.Dec.{lit<}
-use lib.ListN.{getD, set, length, replicate}
-use lib.Seq.{ext-getD, getD-set-same, getD-set-other, set-out}
-use Rattle.bits.specs.Bits.{bitAt, fieldAt, setBit, putAt, fieldsAt, putsAt, total, Within}
+use lib.ListN.{getD, length}
+use lib.Seq.{ext-getD}
+use Rattle.bits.specs.Bits.{bitAt, fieldAt, fieldsAt, putsAt, total, Within}
+use Rattle.bits.specs.Bytes.{Bytes}
 use Rattle.bits.proofs.FieldLaws.{bit-lt, field-lt}
-use Rattle.bits.proofs.ByteWise.{field-byte}
-use Rattle.bits.proofs.PutLaws.{byte-lt, field-ext}
+use Rattle.bits.proofs.PutLaws.{field-ext}
 use Rattle.bits.proofs.RowLaws.{length-puts, fields-puts}
-use Rattle.d1_subframes.specs.Subframe.{Bytes}
-
--- bytes stay bytes
-set-bytes : (s : List ℕ) (i v : ℕ) → Bytes s → v < 256 → Bytes (set s i v)
-set-bytes s i v b h j =
-    dite (decLt i (length s))
-    (λ l. dite (ℕ-discrete j i) (λ e. rw (e, getD-set-same s i v 0 l) h) (λ n. rw (getD-set-other s i j v 0 n) (b j)))
-    (λ n. rw (set-out s i v (omega arith)) (b j))
-
-setBit-bytes : (s : List ℕ) (i b : ℕ) → Bytes s → b < 2 → Bytes (setBit s i b)
-unfolding setBit
-setBit-bytes s i b h l = set-bytes s (i / 8) _ h (byte-lt (getD s (i / 8) 0) (7 - i % 8) b (h (i / 8)) (omega arith) l)
-
-put-bytes : (s : List ℕ) (at n v : ℕ) → Bytes s → Bytes (putAt s at n v)
-unfolding putAt
-put-bytes s at zero v h = h
-put-bytes s at (suc n) v h = put-bytes (setBit s (at + n) (v % 2)) at n (v / 2) (setBit-bytes s (at + n) (v % 2) h (omega arith))
-
-pub puts-bytes : (s : List ℕ) (at : ℕ) (ws vs : List ℕ) → Bytes s → Bytes (putsAt s at ws vs)
-unfolding putsAt
-puts-bytes s at [] vs h = h
-puts-bytes s at (w ∷ ws) [] h = h
-puts-bytes s at (w ∷ ws) (v ∷ vs) h = puts-bytes (putAt s at w v) (at + w) ws vs (put-bytes s at w v h)
-
-pub zero-bytes : (n : ℕ) → Bytes (replicate n 0)
-zero-bytes zero j = lit< tt
-zero-bytes (suc n) zero = lit< tt
-zero-bytes (suc n) (suc j) = zero-bytes n j
+use Rattle.bits.proofs.WindowLaws.{byte-field}
+use Rattle.bits.proofs.BytesStay.{puts-bytes}
 
 -- equal fields have equal bits
 field-bits : (s t : List ℕ) (at n : ℕ) → fieldAt s at n ≡ fieldAt t at n → (k : ℕ) → k < n → bitAt s (at + k) ≡ bitAt t (at + k)
@@ -65,17 +38,11 @@ fields-bits s t at (w ∷ ws) e j a b =
     subst (λ (x : ℕ). bitAt s x ≡ bitAt t x) (sym q) (field-bits s t at w here (j - at) (omega arith)))
     (λ n. fields-bits s t (at + w) ws rest j (omega arith) (omega arith))
 
--- a byte is its eight bits
-byte-field : (s : List ℕ) (j : ℕ) → Bytes s → fieldAt s (8 * j) 8 ≡ getD s j 0
-byte-field s j h =
-    ap (λ (x : ℕ). fieldAt s x 8) (sym (add-zero (8 * j))) ∙ field-byte s j 0 8 (omega arith)
-    ∙ ap (λ (x : ℕ). x % 256) (div-one (getD s j 0)) ∙ mod-eq-of-lt (h j)
-
 -- bytes of equal bits are equal
 pub bytes-ext : (s t : List ℕ) → Bytes s → Bytes t → length s ≡ length t → ((j : ℕ) → j < 8 * length s → bitAt s j ≡ bitAt t j) → s ≡ t
 bytes-ext s t hs ht l e =
     ext-getD 0 s t l
-    (λ j h. sym (byte-field s j hs) ∙ field-ext s t (8 * j) 8 (λ k g. e (8 * j + k) (omega arith)) ∙ byte-field t j ht)
+    (λ j h. sym (byte-field s j (hs j)) ∙ field-ext s t (8 * j) 8 (λ k g. e (8 * j + k) (omega arith)) ∙ byte-field t j (ht j))
 
 -- the fields of a row are within their widths
 pub fields-within : (s : List ℕ) (at : ℕ) (ws : List ℕ) → Within ws (fieldsAt s at ws)

@@ -20,10 +20,12 @@ use Rattle.d1_words.specs.Code.{flip}
 use Rattle.d1_words.specs.Word.{spread, interleaved, writtenWord, readWord, writtenFirst, readFirst}
 use Rattle.d1_words.proofs.WordLaws.{read-flipped, first-flipped, written-lt, written-first-lt}
 use Rattle.d1_subframes.specs.Subframe.{wordWidths, infoWidths, widthOf, offsetOf, infoOf, sentOf, infosOf, sentsOf, dataOf, subframeOf}
-use Rattle.d1_subframes.specs.Subframe.{subframeRefusal, readRefusal, subframeWriteRefusal, writeUnfit, readInto, noise, Received, Bytes}
+use Rattle.d1_subframes.specs.Subframe.{subframeRefusal, readRefusal, subframeWriteRefusal, writeUnfit, readInto, noise, Received}
+use Rattle.bits.specs.Bytes.{Bytes}
 use Rattle.d1_subframes.proofs.LoopLaws.{length-words, word-width, length-sentsOf, sent-nth, length-subframe}
 use Rattle.d1_subframes.proofs.AnswerLaws.{read-judged, write-unfit, write-judged, write-fits}
-use Rattle.d1_subframes.proofs.ByteBack.{zero-bytes, within-all, row-back}
+use Rattle.bits.proofs.BytesStay.{zero-bytes}
+use Rattle.d1_subframes.proofs.ByteBack.{within-all, row-back}
 
 -- a word as it is written fits 30 bits
 sent-lt : (i v : ℕ) → sentOf i v < 2 ^ 30

@@ -5,7 +5,7 @@ use mathlib.Core.Bool.{Bool, not, _||_}
 use mathlib.Core.List.{List, [], _∷_}
 use lib.Dec.{eqb, ltb}
 use lib.Bits.{bitXor}
-use lib.ListN.{getD, length, replicate}
+use lib.ListN.{length, replicate}
 use Rattle.bits.specs.Pick.{pick}
 use Rattle.bits.specs.Bits.{fieldAt, putsAt}
 use Rattle.bits.specs.Table.{table}
@@ -110,7 +110,3 @@ noise i j k = pick (eqb i 0) (flip k) (interleaved (flip j) (flip k))
 -- 02, CR 4: s has the words of the subframe of d, with at most one flipped bit in each code word: bits j i and k i of word i
 abbrev pub Received : List ℕ → List ℕ → (ℕ → ℕ) → (ℕ → ℕ) → Type 0
 Received d s j k = (i : ℕ) → i < 10 → fieldAt s (30 * i) 30 ≡ bitXor (fieldAt (subframeOf d) (30 * i) 30) (noise i (j i) (k i))
-
--- every element is a byte
-abbrev pub Bytes : List ℕ → Type 0
-Bytes s = (j : ℕ) → getD s j 0 < 256

@@ -56,7 +56,7 @@ fn data_of(s: &[u8]) -> [u8; 28]
     let mut i: usize = 0;
     while i < 10 {
         let v = info_at(s, i);
-        bits::put(&mut out, offset_of(i), width_of(i), v as u64);
+        put_bits::put(&mut out, offset_of(i), width_of(i), v as u64);
         i += 1;
     }
     out
@@ -70,7 +70,7 @@ fn subframe_of(d: &[u8]) -> [u8; 38]
     let mut i: usize = 0;
     while i < 10 {
         let w = sent_at(d, i);
-        bits::put(&mut out, 30 * i, 30, w as u64);
+        put_bits::put(&mut out, 30 * i, 30, w as u64);
         i += 1;
     }
     out

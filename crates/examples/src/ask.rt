@@ -4,9 +4,9 @@ use crate::cases::take_next;
 use crate::say::say;
 use crate::say::say_number;
 use ledger::Ledger;
-use list::row::RowAnswer;
 use list::rows::row_at;
 use list::rows::row_of_slot;
+use row::RowAnswer;
 
 // The broadcast issues of every case: slot 19 is 37, slot 64 is 88, others none.
 pub(crate) fn issues() -> [u16; 255] {

@@ -6,10 +6,10 @@ use crate::say::say_row;
 use ledger::Ledger;
 use ledger::open::open;
 use ledger::take::take;
-use list::row::RowAnswer;
 use list::rows::Count;
 use list::rows::row_at;
 use list::rows::row_count;
+use row::RowAnswer;
 use verdict::number_of;
 
 // A ledger for PRN 60.

@@ -45,11 +45,11 @@ fn symbol(k: usize) -> u8
 // A frame with the appendix's code word: sync, PRN 60, flags of zero, 162 symbols.
 fn frame() -> [u8; 125] {
     let mut out = [0u8; 125];
-    bits::put(&mut out, 0, 16, 0xEB90);
-    bits::put(&mut out, 16, 6, 60);
+    put_bits::put(&mut out, 0, 16, 0xEB90);
+    put_bits::put(&mut out, 16, 6, 60);
     let mut k: usize = 0;
     while k < 162 {
-        bits::put(&mut out, 28 + 6 * k, 6, symbol(k) as u64);
+        put_bits::put(&mut out, 28 + 6 * k, 6, symbol(k) as u64);
         k += 1;
     }
     out
@@ -60,7 +60,7 @@ fn damaged(k: u8) -> [u8; 125] {
     let mut out = frame();
     let at = 28 + 6 * (k as usize);
     let was = bits::get(&out, at, 6);
-    bits::put(&mut out, at, 6, was ^ 1);
+    put_bits::put(&mut out, at, 6, was ^ 1);
     out
 }
 
@@ -97,7 +97,7 @@ fn say_product(a: u8, b: u8) {
 // Writes the check of 462 zero bits, the last of them made b.
 fn say_check(text: &[u8], b: u64) {
     let mut message = [0u8; 61];
-    bits::put(&mut message, 461, 1, b);
+    put_bits::put(&mut message, 461, 1, b);
     say(text);
     io::print_hex(STDOUT_FILENO, check24::check(&message, 0, 462) as u64, 6);
     say(b"\n");
@@ -139,7 +139,7 @@ fn say_code(code: u8) {
     say(b"URA code ");
     say_number(code as u64);
     say(b": ");
-    say_ura(records::ura::ura_of(code));
+    say_ura(ura::ura_of(code));
     say(b"\n");
 }
 
@@ -168,7 +168,7 @@ fn say_read(text: &[u8], message: &[u8]) {
 // Writes the answer to a message of zero bytes but for one bit.
 fn say_read_bit(text: &[u8], at: usize) {
     let mut message = [0u8; 61];
-    bits::put(&mut message, at, 1, 1);
+    put_bits::put(&mut message, at, 1, 1);
     say_read(text, &message);
 }
 

@@ -1,8 +1,8 @@
 // Writing to standard output.
 use libc::STDOUT_FILENO;
-use list::row::Row;
-use records::slots::System;
-use records::ura::Ura;
+use row::Row;
+use slots::System;
+use ura::Ura;
 
 // Writes bytes.
 pub(crate) fn say(text: &[u8]) {

@@ -14,7 +14,7 @@ use Rattle.contents.specs.declared.parts.MaskPart.{MaskPart}
 use Rattle.contents.specs.declared.parts.ClockPart.{ClockPart}
 use Rattle.contents.specs.declared.parts.OrbitPart.{OrbitPart}
 use Rattle.contents.specs.declared.parts.Contents.{Contents}
-use Rattle.list.specs.declared.row.Row.{Row}
+use Rattle.row.specs.declared.Row.{Row}
 use Rattle.flat_forms.specs.Write.{flatClockRow, flatOrbitRow, rowsTo, maskHead, clockHead, orbitHead, flatMaskBytes, clocksBytes, orbitsBytes, contentsBytes, rowList, rowBytes}
 use Rattle.flat_forms.proofs.StoreLaws.{store-two, store-whole, length-rows}
 

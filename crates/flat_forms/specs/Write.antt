@@ -7,16 +7,16 @@ use Rattle.bits.specs.Bytes.{rowAt}
 use Rattle.records.specs.Signed.{rawHalf}
 use Rattle.records.specs.Orbit.{blankOrbit}
 use Rattle.records.specs.Clock.{blankClock}
-use Rattle.records.specs.Ura.{kindOf, quartersIn}
+use Rattle.ura.specs.Ura.{kindOf, quartersIn}
 use Rattle.records.specs.declared.orbit.Orbit.{Orbit}
 use Rattle.records.specs.declared.clock.Clock.{Clock}
-use Rattle.records.specs.declared.slots.System.{System}
-use Rattle.records.specs.declared.slots.System.the-variants.{Reserved, BeiDou, Gps, Galileo, Glonass}
+use Rattle.slots.specs.declared.System.{System}
+use Rattle.slots.specs.declared.System.the-variants.{Reserved, BeiDou, Gps, Galileo, Glonass}
 use Rattle.contents.specs.declared.parts.MaskPart.{MaskPart}
 use Rattle.contents.specs.declared.parts.ClockPart.{ClockPart}
 use Rattle.contents.specs.declared.parts.OrbitPart.{OrbitPart}
 use Rattle.contents.specs.declared.parts.Contents.{Contents}
-use Rattle.list.specs.declared.row.Row.{Row}
+use Rattle.row.specs.declared.Row.{Row}
 
 -- the two bytes' number of a number with its sign
 abbrev pub word : ℤ → ℕ

@@ -9,14 +9,14 @@ use contents::parts::ClockPart;
 use contents::parts::Contents;
 use contents::parts::MaskPart;
 use contents::parts::OrbitPart;
-use list::row::Row;
 use records::clock::Clock;
 use records::clock::blank_clock;
 use records::orbit::Orbit;
 use records::orbit::blank_orbit;
-use records::slots::System;
-use records::ura::ura_kind;
-use records::ura::ura_quarters;
+use row::Row;
+use slots::System;
+use ura::ura_kind;
+use ura::ura_quarters;
 
 // A number with its sign as two bytes say it.
 fn raw16(z: i16) -> u16

@@ -8,7 +8,7 @@ use lib.Seq.{getD-append-add}
 use lib.Signed.{mag}
 use native.Mathlib.Nat.{zero-add, not-suc-le-zero, eq-or-lt-of-le, le-of-suc-le-suc, mul-le-mul-left, mul-suc}
 use native.Mathlib.Omega.{arith}
-use Rattle.records.proofs.UraLaws.{kind-back}
+use Rattle.ura.proofs.UraLaws.{kind-back}
 use Rattle.bits.specs.Bytes.{rowAt}
 use Rattle.bits.proofs.ByteLaws.{getD-row}
 use Rattle.bits.proofs.TableLaws.{table-ext, table-same}
@@ -19,7 +19,7 @@ use Rattle.records.proofs.SignedLaws.{signed-raw}
 use Rattle.records.specs.declared.orbit.Orbit.{Orbit}
 use Rattle.records.specs.declared.clock.Clock.{Clock}
 use Rattle.contents.specs.declared.parts.Contents.{Contents}
-use Rattle.records.specs.Ura.{quartersIn}
+use Rattle.ura.specs.Ura.{quartersIn}
 use Rattle.from_flat.specs.Read.{flatClockNth, flatClocksAt, flatOrbitNth, flatOrbitsAt, flatMaskIn, flatClocksIn, flatOrbitsIn, flatContentsOf}
 use Rattle.flat_forms.specs.Write.{word, flatClockRow, flatOrbitRow, rowsTo, maskHead, clockHead, orbitHead, flatMaskBytes, clocksBytes, orbitsBytes, contentsBytes}
 use Rattle.flat_forms.proofs.StoreLaws.{length-rows}

@@ -6,7 +6,7 @@ use Rattle.bits.specs.Bytes.{rowAt}
 use Rattle.bits.specs.Table.{table}
 use Rattle.lent.specs.Digits.{twoAt, fourAt}
 use Rattle.records.specs.Signed.{signedHalf}
-use Rattle.records.specs.Ura.{heldUra}
+use Rattle.ura.specs.Ura.{heldUra}
 use Rattle.records.specs.declared.orbit.Orbit.{Orbit}
 use Rattle.records.specs.declared.clock.Clock.{Clock}
 use Rattle.contents.specs.declared.parts.MaskPart.{MaskPart}

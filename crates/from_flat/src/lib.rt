@@ -12,7 +12,7 @@ use records::clock::Clock;
 use records::clock::blank_clock;
 use records::orbit::Orbit;
 use records::orbit::blank_orbit;
-use records::ura::held_ura;
+use ura::held_ura;
 
 // The number with its sign that two bytes say.
 fn signed16(x: u16) -> i16

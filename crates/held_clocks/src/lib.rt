@@ -1,7 +1,7 @@
 // The clocks that a ledger keeps, as lent bytes: docs/FORM.md. Any bytes are such a form; bytes past the end are 0.
 ghost use mathlib.Core.Path.{_≡_};
 ghost use Rattle.held_clocks.specs.Clocks.{noClock, heldClockBytes, clockOffset, heldClockAt, putClock, dropClock, droppedClocks};
-use records::slots::Slot;
+use slots::Slot;
 
 // A clock as it is kept: its part's epoch and IOD SSR, and whether it came by place. C0 is raw.
 pub struct HeldClock {

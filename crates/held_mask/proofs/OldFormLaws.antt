@@ -15,7 +15,7 @@ use Rattle.bits.proofs.TableLaws.{length-table, getD-table, table-ext, table-sa
 use Rattle.lent.specs.Digits.{flagOf, flagsOf}
 use Rattle.lent.proofs.DigitLaws.{flag-back, flag-at}
 use Rattle.contents.specs.Parts.{maskBitAt, maskBitsAt, bitsOf}
-use Rattle.records.specs.Slots.{setCount, nthSet}
+use Rattle.slots.specs.Slots.{setCount, nthSet}
 use Rattle.mask_bits.specs.Bits.{bitAtSlot}
 use Rattle.held_mask.specs.Mask.{HeldMask}
 use Rattle.held_mask.specs.OldForm.{oldBits, numberOf, slotBit, packed, SameAsOldForm, OldForm}

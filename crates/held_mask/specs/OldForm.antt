@@ -10,7 +10,7 @@ use Rattle.bits.specs.Pick.{pick}
 use Rattle.bits.specs.Table.{table}
 use Rattle.contents.specs.Parts.{bitsOf}
 use Rattle.contents.specs.declared.parts.MaskPart.{MaskPart}
-use Rattle.records.specs.Slots.{setCount, nthSet}
+use Rattle.slots.specs.Slots.{setCount, nthSet}
 use Rattle.mask_bits.specs.Bits.{bitAtSlot}
 use Rattle.held_mask.specs.Size.{size}
 use Rattle.held_mask.specs.Mask.{maskAt, putMask}

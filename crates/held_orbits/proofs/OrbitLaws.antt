@@ -11,8 +11,8 @@ use Rattle.lookback.specs.Store.{Named, putAll}
 use Rattle.lent.specs.Digits.{zigOf}
 use Rattle.lent.proofs.HeldLaws.{puts-room, puts-view, AllHeld, held-sound, helds-kept}
 use Rattle.lent.proofs.DigitLaws.{pair-back, quad-back, zag-zig}
-use Rattle.records.specs.Ura.{quartersIn}
-use Rattle.records.proofs.UraLaws.{kind-back}
+use Rattle.ura.specs.Ura.{quartersIn}
+use Rattle.ura.proofs.UraLaws.{kind-back}
 use Rattle.held_mask.specs.Size.{size}
 use Rattle.held_orbits.specs.Orbits.{heldOrbitAt, orbitOffset, noOrbit, heldOrbitBytes, heldOrbitOf, heldOrbitsAt, putOrbits}
 use Rattle.held_orbits.specs.declared.HeldOrbit.{HeldOrbit}

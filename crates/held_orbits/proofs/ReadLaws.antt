@@ -15,8 +15,8 @@ use Rattle.bits.specs.Bytes.{rowAt}
 use Rattle.bits.specs.Table.{table}
 use Rattle.lent.specs.Digits.{zagOf, twoAt, fourAt}
 use Rattle.lent.specs.Held.{heldAt}
-use Rattle.records.specs.Ura.{heldUra}
-use Rattle.records.specs.declared.ura.Ura.{Ura}
+use Rattle.ura.specs.Ura.{heldUra}
+use Rattle.ura.specs.declared.Ura.{Ura}
 use Rattle.held_orbits.specs.Orbits.{noOrbit, orbitOffset, heldOrbitAt}
 use Rattle.held_orbits.specs.declared.HeldOrbit.{HeldOrbit}
 

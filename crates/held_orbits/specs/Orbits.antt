@@ -10,8 +10,8 @@ use Rattle.bits.specs.Pick.{pick}
 use Rattle.lookback.specs.Store.{Named}
 use Rattle.lent.specs.Digits.{flagOf, zigOf, zagOf, pairOf, quadOf}
 use Rattle.lent.specs.Held.{offset, heldAt, heldsAt, putHeld, putHelds}
-use Rattle.records.specs.Ura.{kindOf, quartersIn, heldUra}
-use Rattle.records.specs.declared.ura.Ura.the-variants.{Unknown}
+use Rattle.ura.specs.Ura.{kindOf, quartersIn, heldUra}
+use Rattle.ura.specs.declared.Ura.the-variants.{Unknown}
 use Rattle.held_orbits.specs.declared.HeldOrbit.{HeldOrbit}
 
 -- 01, What the ledger keeps: the slot has no orbit

@@ -1,11 +1,11 @@
 // The orbits that a ledger keeps, as lent bytes: docs/FORM.md. Any bytes are such a form; bytes past the end are 0.
 ghost use mathlib.Core.Path.{_≡_};
 ghost use Rattle.held_orbits.specs.Orbits.{noOrbit, heldOrbitBytes, orbitOffset, heldOrbitAt, putOrbit};
-use records::slots::Slot;
-use records::ura::Ura;
-use records::ura::held_ura;
-use records::ura::ura_kind;
-use records::ura::ura_quarters;
+use slots::Slot;
+use ura::Ura;
+use ura::held_ura;
+use ura::ura_kind;
+use ura::ura_quarters;
 
 // An orbit as it is kept: its part's epoch and IOD SSR. Radial, along and cross are raw.
 pub struct HeldOrbit {

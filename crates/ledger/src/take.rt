@@ -26,9 +26,9 @@ use places::held_clock;
 use places::held_orbit;
 use places::needs_mask;
 use places::place_verdict;
-use records::slots::Place;
-use records::slots::Slot;
-use records::slots::slot_named;
+use slots::Place;
+use slots::Slot;
+use slots::slot_named;
 use verdict::Verdict;
 use verdict::number_of;
 

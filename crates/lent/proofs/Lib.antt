@@ -1,6 +1,6 @@
 pub mod HeldLaws
 pub mod DropLaws
 pub mod DigitLaws
-pub mod SignLaws
 pub mod PastLaws
 pub mod ZeroLaws
+pub mod ZigLaws

@@ -2,25 +2,22 @@
 use Prim.Native.Nat.{ℕ, _+_, _-_, _<_, _≤_}
 use mathlib.Core.Path.{_≡_, refl, ap}
 use mathlib.Core.List.{List}
-use mathlib.Core.Logic.{dite}
-use native.Mathlib.Decide.{ℕ-discrete}
 use borrow.Author.Tests.{eq-eqb, ne-eqb, lt-ltb, le-ltb}
 use mathlib.Core.Option.{Option, none, some}
 use mathlib.Core.Bool.{Bool, true, false}
 use native.Mathlib.Omega.{arith}
 use lib.ListN.{length, getD}
-use Rattle.bits.specs.Pick.{pick}
-use Rattle.lookback.specs.Walk.{toList}
-use Rattle.list.specs.Row.{rowSays, answerOf, rowHeld}
 use Rattle.bits.specs.Some.{anyOf}
-use Rattle.list.specs.Issues.{isIll, issuesRefusal}
+use Rattle.lookback.specs.Walk.{toList, nthOf}
+use Rattle.issues.specs.Issues.{isIll, issuesRefusal}
+use Rattle.issues.proofs.IssueLaws.{issues-sound}
+use Rattle.row.specs.Row.{rowSays, answerOf, rowHeld}
+use Rattle.row.specs.declared.Row.{Row}
+use Rattle.row.specs.declared.RowAnswer.{RowAnswer}
+use Rattle.row.specs.declared.RowAnswer.the-variants.{Found, Refused}
 use Rattle.list.specs.Rows.{foundCount, countSays, rowIn, listIn, countAnswer, rowAtAnswer, rowOfSlotAnswer}
-use Rattle.lookback.specs.Walk.{nthOf}
 use Rattle.list.specs.declared.rows.Count.{Count}
 use Rattle.list.specs.declared.rows.Count.the-variants as count
-use Rattle.list.specs.declared.row.Row.{Row}
-use Rattle.list.specs.declared.row.RowAnswer.{RowAnswer}
-use Rattle.list.specs.declared.row.RowAnswer.the-variants.{Found, Refused}
 
 -- answers that say the same are the same: a promise of what is said admits a single answer
 pub row-once : (a b : RowAnswer) → rowSays a ≡ rowSays b → a ≡ b
@@ -58,21 +55,6 @@ found-le (Refused n) = omega arith
 -- slot i + 1 takes entry i
 pub row-next : (s is : List ℕ) (i : ℕ) → rowIn s is (i + 1) ≡ rowHeld s (getD is i 0) (i + 1)
 row-next s is i = let e : i + 1 - 1 ≡ i = omega arith in rw e
-
--- a broadcast list that is not refused has 255 entries, none of them ill
-pub issues-long : (is : List ℕ) → issuesRefusal is ≡ 0 → length is ≡ 255
-unfolding issuesRefusal
-issues-long is e =
-    dite (ℕ-discrete (length is) 255) (λ q. q)
-    (λ n. absurd (let z : _≡_ {A = ℕ} 1 0 = rw (ne-eqb (length is) 255 n) at e in omega arith))
-
-pub issues-sound : (is : List ℕ) → issuesRefusal is ≡ 0 → anyOf isIll is ≡ false
-unfolding issuesRefusal
-issues-sound is e = go (anyOf isIll is) (rw (eq-eqb (length is) 255 (issues-long is e)) at e)
-  where
-    go : (b : Bool) → _≡_ {A = ℕ} (pick b 17 0) 0 → b ≡ false
-    go true h = absurd (let z : _≡_ {A = ℕ} 17 0 = h in omega arith)
-    go false h = refl
 
 -- the cases of the three questions
 module _ (s is : List ℕ) where

@@ -7,7 +7,7 @@ use native.Mathlib.Omega.{arith}
 use borrow.Author.Tests.{le-leb, lt-leb}
 use lib.ListN.{length}
 use Rattle.lookback.specs.Walk.{toList, rowsFrom}
-use Rattle.list.specs.Row.{isAssigned, qualifies, rowOf}
+use Rattle.row.specs.Row.{isAssigned, qualifies, rowOf}
 use Rattle.list.specs.Rows.{rowIn, listIn, mostRows, Fits}
 
 module _ {A : Type 0} (f : ℕ → Option A) where

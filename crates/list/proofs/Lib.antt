@@ -1,3 +1,2 @@
-pub mod UsableLaws
 pub mod AnswerLaws
 pub mod FitsLaws

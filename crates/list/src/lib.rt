@@ -1,4 +1,2 @@
 // The list of the satellites that qualify, by what a ledger holds and the broadcast issues given.
-pub mod issues;
-pub mod row;
 pub mod rows;

@@ -1,11 +1,11 @@
 // The list asked for its number of rows, its n-th row, and the row of a slot.
 ghost use mathlib.Core.Path.{_≡_};
-ghost use Rattle.list.specs.Row.{rowSays};
+ghost use Rattle.row.specs.Row.{rowSays};
 ghost use Rattle.list.specs.Rows.{foundCount, countSays, countAnswer, rowAtAnswer, rowOfSlotAnswer};
-use crate::issues::issues_refusal;
-use crate::row::RowAnswer;
-use crate::row::slot_row;
-use records::slots::Slot;
+use issues::issues_refusal;
+use row::RowAnswer;
+use row::slot_row;
+use slots::Slot;
 
 // A number of rows, or one of 01's refusal numbers.
 pub enum Count {

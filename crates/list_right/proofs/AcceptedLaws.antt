@@ -19,9 +19,9 @@ use Rattle.held_orbits.specs.declared.HeldOrbit.{HeldOrbit}
 use Rattle.held_mask.specs.Mask.{HeldMask, noHeldMask, sameMask}
 use Rattle.lookback.specs.Walk.{rows}
 use Rattle.lookback.proofs.WalkLaws.{rows-same}
-use Rattle.list.specs.Issues.{issueOf}
-use Rattle.list.specs.Row.{rowOf}
-use Rattle.list.specs.declared.row.Row.{Row}
+use Rattle.issues.specs.Issues.{issueOf}
+use Rattle.row.specs.Row.{rowOf}
+use Rattle.row.specs.declared.Row.{Row}
 use Rattle.list_right.specs.InForce.{rowInForce, listInForce}
 use Rattle.list_right.specs.Good.{Good, Taken}
 use Rattle.places.specs.Keeps.{maskOf, orbitsOf, clocksOf, maskRefusal, refusalUnder}

@@ -5,7 +5,7 @@ use Rattle.bits.specs.Table.{table}
 use Rattle.bits.specs.Some.{anyOf}
 use Rattle.field64.proofs.Examples.{products}
 use Rattle.check24.proofs.Examples.{checks}
-use Rattle.records.specs.Slots.{setCount, nthFrom}
+use Rattle.slots.specs.Slots.{setCount, nthFrom}
 use Rattle.layout.specs.Layout.{layoutOf}
 use Rattle.contents.specs.Parts.{noMask, noClocks, noOrbits}
 use Rattle.judge.specs.Judge.{clockSlots, orbitSlots, refusalOf}
@@ -14,7 +14,7 @@ use Rattle.lookback.specs.Store.{naming, allSame}
 use Rattle.lookback.specs.Walk.{rowsFrom}
 use Rattle.held_mask.specs.Mask.{sameBits, sameMask}
 use Rattle.places.specs.Keeps.{byPlace, bySlot, maskOf, orbitsOf, clocksOf, placeRefusal, maskRefusal}
-use Rattle.list.specs.Row.{isAssigned, usable, agrees, qualifies, rowOf}
+use Rattle.row.specs.Row.{isAssigned, usable, agrees, qualifies, rowOf}
 use Rattle.list_right.specs.Examples.{one, two, four, other, sent, issues, row19, Hold}
 use Rattle.list_right.proofs.FramesLaws.{frames-good}
 use Rattle.list_right.proofs.AcceptedLaws.{maskOver, orbitOver, clockOver, Sound, listOver, list-over, taken-over, refusal-good}

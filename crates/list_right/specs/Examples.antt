@@ -7,17 +7,17 @@ use lib.IntN.{pos, negsuc}
 use lib.ListN.{replicate, set}
 use Rattle.field64.specs.Field.{product}
 use Rattle.check24.specs.Check.{checkOf}
-use Rattle.records.specs.Ura.{uraOf}
+use Rattle.ura.specs.Ura.{uraOf}
 use Rattle.records.specs.Orbit.{blankOrbit}
 use Rattle.records.specs.Clock.{blankClock}
-use Rattle.records.specs.declared.ura.Ura.the-variants.{Quarters}
-use Rattle.records.specs.declared.slots.System.the-variants.{BeiDou}
+use Rattle.ura.specs.declared.Ura.the-variants.{Quarters}
+use Rattle.slots.specs.declared.System.the-variants.{BeiDou}
 use Rattle.layout.specs.Layout.{layoutOf, endOf}
 use Rattle.contents.specs.Parts.{noMask, noClocks, noOrbits}
 use Rattle.contents.specs.declared.parts.Contents.{Contents}
 use Rattle.judge.specs.Judge.{refusalOf}
 use Rattle.in_force.specs.Back.{refusalAfter}
-use Rattle.list.specs.declared.row.Row.{Row}
+use Rattle.row.specs.declared.Row.{Row}
 use Rattle.list_right.specs.InForce.{listInForce}
 use Rattle.list_right.specs.Good.{Good, Taken}
 use Rattle.list_right.specs.Frames.{frames}

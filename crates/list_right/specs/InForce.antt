@@ -5,9 +5,9 @@ use mathlib.Core.List.{List}
 use mathlib.Core.Option.{Option}
 use Rattle.lookback.specs.Walk.{rows}
 use Rattle.in_force.specs.Back.{maskInForce, orbitInForce, clockInForce}
-use Rattle.list.specs.Issues.{issueOf}
-use Rattle.list.specs.Row.{qualifies, rowFrom, rowOf}
-use Rattle.list.specs.declared.row.Row.{Row}
+use Rattle.issues.specs.Issues.{issueOf}
+use Rattle.row.specs.Row.{qualifies, rowFrom, rowOf}
+use Rattle.row.specs.declared.Row.{Row}
 
 -- 01: a slot qualifies, for a ledger of the PRN after the frames h, with the broadcast issues given
 unfoldable pub qualifiesAfter : ℕ → List (List ℕ) → List ℕ → ℕ → Bool

@@ -5,7 +5,7 @@ use mathlib.Core.Bool.{true}
 use mathlib.Core.List.{List, List·Memᴰ}
 use lib.ListN.{getD, length}
 use Rattle.bits.specs.Pick.{pick}
-use Rattle.list.specs.declared.row.Row.{Row}
+use Rattle.row.specs.declared.Row.{Row}
 use Rattle.list_right.specs.InForce.{qualifiesAfter, rowAfter}
 
 -- how many of the n slots from slot on qualify

@@ -7,47 +7,19 @@ use native.Mathlib.Nat.{not-suc-le-zero, add-zero}
 use native.Mathlib.Decide.{decLt, ℕ-discrete}
 use native.Mathlib.Omega.{arith}
 use lib.Dec.{lit<}
-use lib.ListN.{getD, set, length, replicate, length-replicate, List·getD-append}
-use lib.Seq.{ext-getD, getD-set-same, getD-set-other, set-out, getD-append-add}
+use lib.ListN.{getD, length, replicate, length-replicate, List·getD-append}
+use lib.Seq.{ext-getD, getD-append-add}
 use borrow.Author.Tests.{ne-eqb, lt-ltb, le-ltb}
-use Rattle.bits.specs.Bits.{fieldAt, setBit, putAt, fieldsAt, putsAt, total, Within}
+use Rattle.bits.specs.Bits.{fieldAt, fieldsAt, putsAt, total, Within}
+use Rattle.bits.specs.Bytes.{Bytes}
 use Rattle.bits.specs.Table.{table}
 use Rattle.bits.proofs.ByteWise.{field-split}
-use Rattle.bits.proofs.PutLaws.{byte-lt}
 use Rattle.bits.proofs.RowLaws.{length-puts, fields-puts}
 use Rattle.bits.proofs.TableLaws.{length-table, getD-table}
 use Rattle.bits.proofs.WindowLaws.{field-part, field-high, field-low, byte-field}
+use Rattle.bits.proofs.BytesStay.{puts-bytes, zero-bytes}
 use Rattle.making.specs.Make.{frameWidths, framed}
 use Rattle.making.specs.Units.{unitOf, unitByte, frameByte}
-
--- ---- bytes stay bytes
-abbrev Bytes : List ℕ → Type 0
-Bytes s = (j : ℕ) → getD s j 0 < 256
-
-set-bytes : (s : List ℕ) (i v : ℕ) → Bytes s → v < 256 → Bytes (set s i v)
-set-bytes s i v b h j =
-    dite (decLt i (length s))
-    (λ l. dite (ℕ-discrete j i) (λ e. rw (e, getD-set-same s i v 0 l) h) (λ n. rw (getD-set-other s i j v 0 n) (b j)))
-    (λ n. rw (set-out s i v (omega arith)) (b j))
-
-put-bytes : (s : List ℕ) (at n v : ℕ) → Bytes s → Bytes (putAt s at n v)
-unfolding putAt setBit
-put-bytes s at zero v h = h
-put-bytes s at (suc n) v h =
-    let i = at + n in
-    put-bytes (setBit s i (v % 2)) at n (v / 2)
-    (set-bytes s (i / 8) _ h (byte-lt (getD s (i / 8) 0) (7 - i % 8) (v % 2) (h (i / 8)) (omega arith) (omega arith)))
-
-puts-bytes : (s : List ℕ) (at : ℕ) (ws vs : List ℕ) → Bytes s → Bytes (putsAt s at ws vs)
-unfolding putsAt
-puts-bytes s at [] vs h = h
-puts-bytes s at (w ∷ ws) [] h = h
-puts-bytes s at (w ∷ ws) (v ∷ vs) h = puts-bytes (putAt s at w v) (at + w) ws vs (put-bytes s at w v h)
-
-zero-bytes : (n : ℕ) → Bytes (replicate n 0)
-zero-bytes zero j = lit< tt
-zero-bytes (suc n) zero = lit< tt
-zero-bytes (suc n) (suc j) = zero-bytes n j
 
 -- ---- rows of n fields of six bits
 total-six : (n : ℕ) → total (replicate n 6) ≡ 6 * n

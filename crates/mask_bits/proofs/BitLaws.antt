@@ -15,7 +15,7 @@ use Rattle.bits.specs.Table.{table}
 use Rattle.bits.proofs.FieldLaws.{bit-lt}
 use Rattle.bits.proofs.TableLaws.{length-table, getD-table, table-ext}
 use Rattle.contents.specs.Parts.{maskBitAt, maskBitsAt}
-use Rattle.records.specs.Slots.{setCount, nthFrom}
+use Rattle.slots.specs.Slots.{setCount, nthFrom}
 use Rattle.mask_bits.specs.Bits.{bitsAt, bitAtSlot}
 use Rattle.mask_bits.proofs.ManyLaws.{drop-table, count-append, nth-pass-many}
 

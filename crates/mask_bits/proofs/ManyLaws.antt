@@ -9,7 +9,7 @@ use lib.ListN.{length, drop}
 use borrow.Author.Tests.{ne-eqb}
 use Rattle.bits.specs.Table.{table}
 use Rattle.bits.proofs.TableLaws.{drop-one, length-table, getD-table}
-use Rattle.records.specs.Slots.{setCount, nthFrom}
+use Rattle.slots.specs.Slots.{setCount, nthFrom}
 
 module _ {A : Type 0} where
   -- what is left of a table from entry i on: w entries, and what is left from entry i + w on

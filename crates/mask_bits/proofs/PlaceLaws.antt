@@ -11,8 +11,8 @@ use lib.ListN.{length, drop}
 use lib.Seq.{drop-drop}
 use borrow.Author.Tests.{eq-eqb, ne-eqb}
 use Rattle.bits.specs.Pick.{pick}
-use Rattle.records.specs.Slots.{nthFrom}
-use Rattle.records.proofs.SlotLaws.{nth-end}
+use Rattle.slots.specs.Slots.{nthFrom}
+use Rattle.slots.proofs.SlotLaws.{nth-end}
 
 -- a place that is not the first set bit's
 pub more : (bs : List Bool) (b n : ℕ) → n ≢ 1 → nthFrom (true ∷ bs) b n ≡ nthFrom bs (b + 1) (n - 1)

@@ -7,7 +7,7 @@ use Prim.Native.Nat.{ℕ, zero, suc, _+_, _-_, _≤_, _<_}
 use native.Mathlib.Decide.{ℕ-discrete}
 use native.Mathlib.Omega.{arith}
 use lib.ListN.{take}
-use Rattle.records.specs.Slots.{nthFrom}
+use Rattle.slots.specs.Slots.{nthFrom}
 use Rattle.mask_bits.specs.NoPlaceMoves.{NoPlaceMoves, PlacesStay}
 use Rattle.mask_bits.proofs.PlaceLaws.{more, one, clear, none-in, nth-from}
 

@@ -4,7 +4,7 @@ use Prim.Native.Nat.{ℕ, _≤_}
 use mathlib.Core.Bool.{Bool}
 use mathlib.Core.List.{List}
 use lib.ListN.{take}
-use Rattle.records.specs.Slots.{nthSet}
+use Rattle.slots.specs.Slots.{nthSet}
 
 -- 02, CR 12: where two masks agree on slots 1 to 174, a place that has one of these slots in the one has it in the other
 pub record NoPlaceMoves (xs ys : List Bool) : Type 0 where

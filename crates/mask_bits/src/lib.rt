@@ -6,10 +6,10 @@ ghost use lib.ListN.{drop};
 ghost use Rattle.bits.specs.Pick.{pick};
 ghost use Rattle.bits.specs.Table.{table};
 ghost use Rattle.contents.specs.Parts.{maskBitAt};
-ghost use Rattle.records.specs.Slots.{setCount, nthFrom, nthSet};
+ghost use Rattle.slots.specs.Slots.{setCount, nthFrom, nthSet};
 ghost use Rattle.mask_bits.specs.Bits.{bitsAt, bitAtSlot};
-use records::slots::Place;
-use records::slots::Slot;
+use slots::Place;
+use slots::Slot;
 
 // Whether the mask has the bit of a slot; slot 0 has none.
 pub fn has_bit(t: &[u8], slot: Slot) -> bool

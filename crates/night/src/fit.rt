@@ -8,10 +8,10 @@ use console::put::put_byte;
 use console::put::put_bytes;
 use console::put::put_field;
 use console::put::put_number;
-use list::row::RowAnswer;
-use list::row::slot_row;
 use log::epochs::Epochs;
-use records::slots::Slot;
+use row::RowAnswer;
+use row::slot_row;
+use slots::Slot;
 
 // What the limits are held against: how many rows, frames refused and frames in all, the age of the oldest clock of a row, the longest gap.
 pub(crate) struct Found {

@@ -93,7 +93,7 @@ fn put_mask(room: &mut [u8], at: usize, ledger: &[u8]) -> usize
         room,
         c,
         b"satellites",
-        assigned_of(held_mask::set_count(ledger), reserved),
+        assigned_of(mask_bits::set_count(ledger), reserved),
     );
     let e = put_byte(room, d, 10);
     put_reserved(room, e, reserved)

@@ -8,12 +8,12 @@ use console::put::put_metres;
 use console::put::put_number;
 use console::put::put_two;
 use console::put::put_ura_mm;
-use list::row::Row;
-use list::row::RowAnswer;
-use list::row::slot_row;
-use records::slots::Slot;
-use records::slots::System;
-use records::slots::satellite_of;
+use row::Row;
+use row::RowAnswer;
+use row::slot_row;
+use slots::Slot;
+use slots::System;
+use slots::satellite_of;
 
 // The letter of a system.
 fn letter_of(s: System) -> u8 {
@@ -158,7 +158,7 @@ fn is_absent(ledger: &[u8], issue: u16, slot: u8) -> bool {
     if !held_mask::has_mask(ledger) {
         return false;
     }
-    if !held_mask::has_bit(ledger, Slot(slot)) {
+    if !mask_bits::has_bit(ledger, Slot(slot)) {
         return false;
     }
     let answer = slot_row(ledger, Slot(slot), issue);
@@ -174,7 +174,7 @@ pub(crate) fn reserved_count(ledger: &[u8]) -> u16 {
     let mut slot: u8 = 174;
     while slot < 255 {
         slot += 1;
-        if held_mask::has_bit(ledger, Slot(slot)) {
+        if mask_bits::has_bit(ledger, Slot(slot)) {
             n = n % 1000 + 1;
         }
     }

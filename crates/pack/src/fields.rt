@@ -12,7 +12,7 @@ use records::clock::Clock;
 use records::clock::blank_clock;
 use records::orbit::Orbit;
 use records::orbit::blank_orbit;
-use records::ura::Ura;
+use ura::Ura;
 
 // A record and whether it was well formed.
 pub(crate) struct ClockWord {

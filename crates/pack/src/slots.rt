@@ -48,7 +48,7 @@ fn slot_word(s: &[u8], p: Cursor, last: u32) -> Got {
 fn with_slot(bytes: [u8; 32], slot: u32) -> [u8; 32] {
     let mut out = bytes;
     if slot != 0 {
-        bits::put(&mut out, slot as usize - 1, 1, 1);
+        put_bits::put(&mut out, slot as usize - 1, 1, 1);
     }
     out
 }

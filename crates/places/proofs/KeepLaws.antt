@@ -12,8 +12,8 @@ use native.Mathlib.Omega.{arith}
 use borrow.Author.Tests.{eq-eqb, ne-eqb, lt-ltb, le-ltb, ltb-true, ltb-false}
 use Rattle.bits.specs.Pick.{pick}
 use Rattle.bits.proofs.TableLaws.{drop-one}
-use Rattle.records.specs.Slots.{slotNamed, setCount, nthSet}
-use Rattle.records.proofs.SlotLaws.{nth-none}
+use Rattle.slots.specs.Slots.{slotNamed, setCount, nthSet}
+use Rattle.slots.proofs.SlotLaws.{nth-none}
 use Rattle.records.specs.declared.orbit.Orbit.{Orbit}
 use Rattle.records.specs.declared.clock.Clock.{Clock}
 use Rattle.contents.specs.declared.parts.ClockPart.{ClockPart}

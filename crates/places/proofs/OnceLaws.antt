@@ -14,12 +14,12 @@ use Rattle.bits.specs.Pick.{pick}
 use Rattle.bits.specs.Some.{anyOf}
 use Rattle.bits.specs.Table.{table}
 use Rattle.bits.proofs.TableLaws.{table-ext, table-same}
-use Rattle.records.specs.Slots.{setCount, nthSet}
+use Rattle.slots.specs.Slots.{setCount, nthSet}
 use Rattle.records.specs.Clock.{blankClock}
 use Rattle.records.specs.Orbit.{blankOrbit}
 use Rattle.records.specs.declared.orbit.Orbit.{Orbit}
 use Rattle.records.specs.declared.clock.Clock.{Clock}
-use Rattle.records.proofs.SlotLaws.{nth-none, nth-rises}
+use Rattle.slots.proofs.SlotLaws.{nth-none, nth-rises}
 use Rattle.judge.specs.Judge.{isSame, isAgain, clockSlots, orbitSlots}
 use Rattle.contents.specs.declared.parts.ClockPart.{ClockPart}
 use Rattle.contents.specs.declared.parts.OrbitPart.{OrbitPart}

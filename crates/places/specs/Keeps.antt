@@ -7,7 +7,7 @@ use lib.Dec.{eqb, ltb}
 use lib.ListN.{take}
 use Rattle.bits.specs.Pick.{pick}
 use Rattle.bits.specs.Some.{first}
-use Rattle.records.specs.Slots.{setCount, nthSet}
+use Rattle.slots.specs.Slots.{setCount, nthSet}
 use Rattle.records.specs.declared.orbit.Orbit.{Orbit}
 use Rattle.records.specs.declared.clock.Clock.{Clock}
 use Rattle.contents.specs.declared.parts.ClockPart.{ClockPart}

@@ -8,7 +8,7 @@ use held_clocks::HeldClock;
 use held_orbits::HeldOrbit;
 use records::clock::Clock;
 use records::orbit::Orbit;
-use records::slots::Place;
+use slots::Place;
 use verdict::Verdict;
 use verdict::verdict_of;
 

@@ -5,7 +5,7 @@ use mathlib.Core.List.{List}
 use native.Mathlib.Omega.{arith}
 use Rattle.bits.specs.Bits.{fieldAt}
 use Rattle.bits.proofs.WindowLaws.{field-high, field-low, field-part}
-use Rattle.records.proofs.UraLaws.{code-at}
+use Rattle.ura.proofs.UraLaws.{code-at}
 
 module _ (s : List ℕ) (at : ℕ) where
   moved : (i j n : ℕ) → i ≡ j → fieldAt s i n ≡ fieldAt s j n

@@ -1,17 +1,18 @@
 -- Laws of two's complement, for any weight of the highest bit.
 use mathlib.Core.Path.{_≡_, refl, ap}
-use mathlib.Core.Bool.{true, false, true≢false}
+use mathlib.Core.Bool.{true, false}
 use mathlib.Core.Logic.{dite}
 use mathlib.Core.List.{List}
 use Prim.Native.Nat.{ℕ, zero, suc, _-_, _*_, _^_, _<_}
 use native.Mathlib.Nat.{not-suc-le-zero, pow-suc}
 use native.Mathlib.Decide.{decLt}
 use native.Mathlib.Omega.{arith}
-use lib.IntN.{ℤ, pos, negsuc, _-ℤ_, natAbs}
+use lib.IntN.{ℤ, pos, negsuc}
 use lib.Signed.{mag, ltZ}
 use borrow.Author.Tests.{lt-ltb, le-ltb, ltb-true}
 use Rattle.bits.specs.Bits.{fieldAt}
 use Rattle.bits.proofs.FieldLaws.{field-lt}
+use Rattle.bits.proofs.SignLaws.{not-neg}
 use Rattle.records.specs.Signed.{signedHalf, signedAt, rawHalf}
 
 -- z is a number of n bits: from -2 ^ (n - 1) up to, and without, 2 ^ (n - 1)
@@ -50,27 +51,12 @@ twice-half (suc n) h = let e : suc n - 1 ≡ n = omega arith in rw (e, pow-suc 2
 pub signed-in-bits : (n : ℕ) → 0 < n → (s : List ℕ) (at : ℕ) → InBits n (signedAt n s at)
 signed-in-bits n h s at = signed-lt (2 ^ (n - 1)) (fieldAt s at n) (omega (arith, field-lt s at n, twice-half n h))
 
--- a negative number, counted from -1 down; a number that is not negative
-pub neg-sub : (d : ℕ) → negsuc 0 -ℤ pos d ≡ negsuc d
-neg-sub zero = refl
-neg-sub (suc d) = ap negsuc (omega arith)
-
-pub neg-flip : (z : ℤ) → ltZ z (pos 0) ≡ true → negsuc 0 -ℤ z ≡ pos (mag z)
-neg-flip (pos x) e = absurd (not-suc-le-zero (ltb-true x 0 e))
-neg-flip (negsuc m) e = simp (le-ltb (suc m) 1 (omega arith)) (ap pos (omega arith))
-
+-- the bits of a negative number, by its magnitude
 pub neg-raw : (half : ℕ) (z : ℤ) → ltZ z (pos 0) ≡ true → rawHalf half z ≡ 2 * half - 1 - mag z
 neg-raw half (pos x) e = absurd (not-suc-le-zero (ltb-true x 0 e))
 neg-raw half (negsuc m) e = refl
 
-pub not-neg : (m : ℕ) → ltZ (negsuc m) (pos 0) ≡ false → ⊥
-not-neg m e = true≢false e
-
--- a number that is not negative is its own bits, and its own magnitude
+-- a number that is not negative is its own bits
 pub pos-raw : (half : ℕ) (z : ℤ) → ltZ z (pos 0) ≡ false → rawHalf half z ≡ mag z
 pos-raw half (pos x) e = refl
 pos-raw half (negsuc m) e = absurd (not-neg m e)
-
-pub pos-mag : (z : ℤ) → ltZ z (pos 0) ≡ false → natAbs z ≡ mag z
-pos-mag (pos x) e = refl
-pos-mag (negsuc m) e = absurd (not-neg m e)

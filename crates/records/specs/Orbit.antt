@@ -7,8 +7,8 @@ use lib.ListN.{getD}
 use Rattle.bits.specs.Pick.{pick}
 use Rattle.bits.specs.Bits.{fieldsAt}
 use Rattle.records.specs.Signed.{signedOf}
-use Rattle.records.specs.Ura.{uraOf}
-use Rattle.records.specs.declared.ura.Ura.the-variants.{Unknown}
+use Rattle.ura.specs.Ura.{uraOf}
+use Rattle.ura.specs.declared.Ura.the-variants.{Unknown}
 use Rattle.records.specs.declared.orbit.Orbit.{Orbit}
 
 -- 01: Sat Slot [9], IODN [10], IOD Corr [3], radial [15], along [13], cross [13], URA class [3], URA value [3]

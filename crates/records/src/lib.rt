@@ -1,7 +1,5 @@
-// The records of a message: URA, orbit and clock records, slots and systems, raw and scaled numbers.
+// The records of a message: orbit and clock records, raw and scaled numbers.
 pub mod clock;
 pub mod orbit;
 pub mod scale;
 pub mod signed;
-pub mod slots;
-pub mod ura;

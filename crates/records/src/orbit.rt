@@ -2,8 +2,8 @@
 ghost use mathlib.Core.Path.{_≡_};
 ghost use Rattle.records.specs.Orbit.{blankOrbit, orbitAt};
 use crate::signed::signed;
-use crate::ura::Ura;
-use crate::ura::ura_of;
+use ura::Ura;
+use ura::ura_of;
 
 // Radial, along and cross are raw.
 pub struct Orbit {

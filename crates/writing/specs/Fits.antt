@@ -9,7 +9,7 @@ use lib.Signed.{mag}
 use Rattle.bits.specs.Pick.{pick}
 use Rattle.bits.specs.Bits.{bitAt}
 use Rattle.records.specs.Signed.{rawHalf}
-use Rattle.records.specs.Ura.{codeOf}
+use Rattle.ura.specs.Ura.{codeOf}
 use Rattle.records.specs.Orbit.{blankOrbit, orbitWidths}
 use Rattle.records.specs.Clock.{blankClock, clockWidths}
 use Rattle.records.specs.declared.orbit.Orbit.{Orbit}

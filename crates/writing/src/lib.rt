@@ -77,7 +77,7 @@ fn orbit_vals(o: Orbit) -> [u64; 8]
     ensures { λ r. ⌜ r ≡ orbitVals o ⌝ }
 {
     let ura = o.ura;
-    let code = records::ura::code_of(ura);
+    let code = ura::code_of(ura);
     let radial = raw_or(o.radial, 16384);
     let along = raw_or(o.along, 4096);
     let cross = raw_or(o.cross, 4096);
@@ -217,7 +217,7 @@ fn put_head(room: &mut [u8], kind: u8, l: Layout)
     let wide: u8 = if l.head == 14 { 1 } else { 0 };
     let ws = [6, 5 * wide, 3 * wide, 0, 0, 0, 0, 0];
     let vs = [kind as u64, l.clocks as u64, l.orbits as u64, 0, 0, 0, 0, 0];
-    bits::puts(room, 0, ws, vs);
+    put_bits::puts(room, 0, ws, vs);
 }
 
 // Bit i of a mask's 32 bytes, from 0.
@@ -235,7 +235,7 @@ fn put_mask_bits(room: &mut [u8], at: u32, bytes: [u8; 32])
     let mut i: u32 = 0;
     while i < 255 {
         let b = mask_bit(bytes, i);
-        bits::put(room, (at + i) as usize, 1, b);
+        put_bits::put(room, (at + i) as usize, 1, b);
         i += 1;
     }
 }
@@ -244,7 +244,7 @@ fn put_mask_bits(room: &mut [u8], at: u32, bytes: [u8; 32])
 fn put_part_head(room: &mut [u8], at: u32, p: u8, w: u8, epoch: u32, ssr: u8, iodp: u8, start: u16)
     ensures { λ r. ⌜ now (room .exit) ≡ putsAt (now (room .entry)) at (partWidths p w) (headVals epoch ssr iodp start) ⌝ }
 {
-    bits::puts(
+    put_bits::puts(
         room,
         at,
         head_widths(p, w),
@@ -274,7 +274,7 @@ fn put_clock_rows(room: &mut [u8], at: u32, slotted: bool, ks: [Clock; 23], n: u
     let mut i: u32 = 0;
     while i < n as u32 {
         let k = ks[i as usize];
-        bits::puts(room, at + each * i, ws, clock_vals(k));
+        put_bits::puts(room, at + each * i, ws, clock_vals(k));
         i += 1;
     }
 }
@@ -303,7 +303,7 @@ fn put_orbit_rows(room: &mut [u8], at: u32, os: [Orbit; 6], n: u8)
     let mut i: u32 = 0;
     while i < n as u32 {
         let o = os[i as usize];
-        bits::puts(room, at + 69 * i, ws, orbit_vals(o));
+        put_bits::puts(room, at + 69 * i, ws, orbit_vals(o));
         i += 1;
     }
 }
@@ -341,7 +341,7 @@ fn put_check(room: &mut [u8])
     ensures { λ r. ⌜ now (room .exit) ≡ checkPut (now (room .entry)) ⌝ }
 {
     let check = check24::check(room, 0, 462);
-    bits::put(room, 462, 24, check as u64);
+    put_bits::put(room, 462, 24, check as u64);
 }
 
 // The message is put into a room of 61 bytes: contents that no refusal applies to.

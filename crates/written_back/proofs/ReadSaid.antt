@@ -12,12 +12,12 @@ use Rattle.bits.specs.Pick.{pick}
 use Rattle.bits.specs.Bits.{bitAt, fieldAt, Within}
 use Rattle.bits.proofs.FieldLaws.{field-lt}
 use Rattle.bits.proofs.TableLaws.{getD-table}
-use Rattle.records.specs.Ura.{uraOf, codeOf}
+use Rattle.ura.specs.Ura.{uraOf, codeOf}
 use Rattle.records.specs.Orbit.{blankOrbit, orbitWidths, orbitAt}
 use Rattle.records.specs.Clock.{blankClock, clockWidths, clockAt}
 use Rattle.records.specs.declared.orbit.Orbit.{Orbit}
 use Rattle.records.specs.declared.clock.Clock.{Clock}
-use Rattle.records.proofs.UraLaws.{code-back}
+use Rattle.ura.proofs.UraLaws.{code-back}
 use Rattle.layout.specs.Layout.{partWidths, orbitsFrom}
 use Rattle.contents.specs.Parts.{clockNth, clocksAt, orbitNth, orbitsAt, noMask, noClocks, noOrbits, maskPartAt, clockPartAt, orbitPartAt, maskIn, clocksIn, orbitsIn, layoutAt, contentsAt}
 use Rattle.layout.specs.declared.Layout.{Layout}

@@ -10,12 +10,12 @@ use borrow.Author.Tests.{eq-eqb, ne-eqb}
 use Rattle.bits.specs.Pick.{pick}
 use Rattle.bits.specs.Bits.{Within}
 use Rattle.records.specs.Signed.{signedHalf}
-use Rattle.records.specs.Ura.{codeOf}
+use Rattle.ura.specs.Ura.{codeOf}
 use Rattle.records.specs.Orbit.{orbitWidths, orbitOf}
 use Rattle.records.specs.Clock.{clockWidths, clockOf}
 use Rattle.records.specs.declared.orbit.Orbit.{Orbit}
 use Rattle.records.specs.declared.clock.Clock.{Clock}
-use Rattle.records.proofs.UraLaws.{ura-back}
+use Rattle.ura.proofs.UraLaws.{ura-back}
 use Rattle.canonical.specs.Canon.{canonClock, canonOrbit}
 use Rattle.writing.specs.Fits.{rawOr, clockVals, orbitVals}
 use Rattle.written_back.proofs.RawBack.{raw-back}

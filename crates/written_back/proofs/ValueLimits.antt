@@ -10,14 +10,14 @@ use native.Mathlib.Omega.{arith}
 use borrow.Author.Tests.{eq-eqb, ne-eqb}
 use Rattle.bits.specs.Pick.{pick}
 use Rattle.bits.specs.Bits.{Within}
-use Rattle.records.specs.Ura.{quartersOf, codeFrom, codeOf}
+use Rattle.ura.specs.Ura.{quartersOf, codeFrom, codeOf}
 use Rattle.records.specs.Orbit.{orbitWidths}
 use Rattle.records.specs.Clock.{clockWidths}
-use Rattle.records.specs.declared.ura.Ura.{Ura}
-use Rattle.records.specs.declared.ura.Ura.the-variants.{Unknown, Quarters, Above}
+use Rattle.ura.specs.declared.Ura.{Ura}
+use Rattle.ura.specs.declared.Ura.the-variants.{Unknown, Quarters, Above}
 use Rattle.records.specs.declared.orbit.Orbit.{Orbit}
 use Rattle.records.specs.declared.clock.Clock.{Clock}
-use Rattle.records.proofs.UraLaws.{code-right}
+use Rattle.ura.proofs.UraLaws.{code-right}
 use Rattle.layout.specs.Layout.{partWidths}
 use Rattle.writing.specs.Fits.{clockVals, orbitVals, headVals}
 use Rattle.written_back.specs.Limits.{Ranged, Coded, HeadLimits, ClockLimits, OrbitLimits}

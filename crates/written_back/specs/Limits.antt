@@ -8,11 +8,12 @@ use lib.IntN.{ℤ, pos, negsuc}
 use lib.ListN.{getD, length}
 use Rattle.bits.specs.Pick.{pick}
 use Rattle.bits.specs.Bits.{bitAt}
-use Rattle.records.specs.Ura.{quartersOf}
+use Rattle.bits.specs.Bytes.{Bytes}
+use Rattle.ura.specs.Ura.{quartersOf}
 use Rattle.records.specs.Orbit.{blankOrbit}
 use Rattle.records.specs.Clock.{blankClock}
-use Rattle.records.specs.declared.ura.Ura.{Ura}
-use Rattle.records.specs.declared.ura.Ura.the-variants.{Unknown, Quarters, Above}
+use Rattle.ura.specs.declared.Ura.{Ura}
+use Rattle.ura.specs.declared.Ura.the-variants.{Unknown, Quarters, Above}
 use Rattle.records.specs.declared.orbit.Orbit.{Orbit}
 use Rattle.records.specs.declared.clock.Clock.{Clock}
 use Rattle.layout.specs.Layout.{endOf}
@@ -57,7 +58,7 @@ pub record OrbitLimits (o : Orbit) : Type 0 where
 -- n bytes
 pub record Octets (n : ℕ) (s : List ℕ) : Type 0 where
   pub long : length s ≡ n
-  pub each : (j : ℕ) → getD s j 0 < 256
+  pub each : Bytes s
 
 -- 01, 12: a slot that is not blank stands once among n
 abbrev pub Once : ℕ → (ℕ → ℕ) → Type 0

@@ -5,8 +5,8 @@ use mathlib.Core.Bool.{true, false}
 use lib.IntN.{ℤ, pos}
 use lib.Signed.{ltZ}
 use mir.Syntax.{w16}
-use Rattle.lent.proofs.SignLaws.{back, flip, flip-fits, cast-of}
-use Rattle.records.proofs.SignedLaws.{neg-raw, pos-raw, pos-mag}
+use Rattle.bits.proofs.SignLaws.{back, flip, flip-fits, cast-of, pos-mag}
+use Rattle.records.proofs.SignedLaws.{neg-raw, pos-raw}
 use Rattle.flat_forms.proofs.raw16.Statement.{statement}
 use Rattle.flat_forms.proofs.raw16.Tie as tie
 

@@ -5,7 +5,7 @@ use mathlib.Core.Path.{_≡_, ap, _∙_}
 use mir.Syntax.{w32, w16}
 use Rattle.flat_forms.specs.Write.{long}
 use Rattle.flat_forms.proofs.FlatLaws.{row-same}
-use Rattle.list.specs.declared.row.Row.{Row}
+use Rattle.row.specs.declared.Row.{Row}
 use mir.Val.{toZ, ofZ, Fits}
 use Rattle.flat_forms.proofs.row_bytes.Statement.{statement}
 use Rattle.flat_forms.proofs.row_bytes.Tie as tie

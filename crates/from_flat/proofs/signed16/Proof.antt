@@ -6,7 +6,7 @@ use borrow.Author.Tests.{lt-ltb, le-ltb}
 use lib.IntN.{negsuc}
 use mir.Syntax.{w16}
 use mir.Facts.{toZ-pos, toZ-ofZ}
-use Rattle.records.proofs.SignedLaws.{neg-sub}
+use Rattle.bits.proofs.SignLaws.{neg-sub}
 use Rattle.from_flat.proofs.signed16.Statement.{statement}
 use Rattle.from_flat.proofs.signed16.Tie as tie
 

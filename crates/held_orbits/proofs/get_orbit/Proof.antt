@@ -2,7 +2,7 @@
 use borrow.Author.Needs.{needs}
 use mathlib.Core.Path.{_≡_, _∙_, ap, ap₂}
 use Rattle.lent.specs.Digits.{zagOf}
-use Rattle.records.specs.Ura.{heldUra}
+use Rattle.ura.specs.Ura.{heldUra}
 use Prim.Native.Nat.{_<_}
 use lib.Dec.{lit<}
 use mir.Syntax.{w16}

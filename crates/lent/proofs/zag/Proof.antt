@@ -7,7 +7,8 @@ use lib.IntN.{pos, negsuc, _-ℤ_}
 use mir.Syntax.{w16}
 use mir.Val.{SFits}
 use mir.Facts.{toZ-ofZ, toZ-pos}
-use Rattle.lent.proofs.SignLaws.{neg-sub, zag-even, zag-odd}
+use Rattle.bits.proofs.SignLaws.{neg-sub}
+use Rattle.lent.proofs.ZigLaws.{zag-even, zag-odd}
 use Rattle.lent.proofs.zag.Statement.{statement}
 use Rattle.lent.proofs.zag.Tie as tie
 

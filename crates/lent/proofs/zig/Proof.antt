@@ -7,7 +7,8 @@ use lib.IntN.{ℤ, pos, negsuc, natAbs}
 use lib.Signed.{ltZ}
 use mir.Syntax.{w16}
 use mir.Val.{SFits, Fits}
-use Rattle.lent.proofs.SignLaws.{back, flip, flip-fits, cast-of, not-neg, neg-zig, pos-zig}
+use Rattle.bits.proofs.SignLaws.{back, flip, flip-fits, cast-of, not-neg}
+use Rattle.lent.proofs.ZigLaws.{neg-zig, pos-zig}
 use Rattle.lent.proofs.zig.Statement.{statement}
 use Rattle.lent.proofs.zig.Tie as tie
 

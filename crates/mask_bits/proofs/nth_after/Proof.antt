@@ -4,8 +4,8 @@ use native.Mathlib.Omega.{arith}
 use Prim.Native.Nat.{ℕ, _+_, _-_, _%_, _≤_, _<_, min}
 use mathlib.Core.Path.{_≡_, sym, _∙_, refl}
 use lib.ListN.{drop}
-use Rattle.records.specs.Slots.{nthFrom}
-use Rattle.records.proofs.SlotLaws.{nth-end}
+use Rattle.slots.specs.Slots.{nthFrom}
+use Rattle.slots.proofs.SlotLaws.{nth-end}
 use Rattle.mask_bits.specs.Bits.{bitsAt}
 use Rattle.mask_bits.proofs.BitLaws.{length-bits, nth-many}
 use Rattle.mask_bits.proofs.nth_after.Statement.{statement}

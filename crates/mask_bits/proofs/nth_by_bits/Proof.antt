@@ -5,8 +5,8 @@ use Prim.Native.Nat.{ℕ, _+_, _-_, _<_}
 use mathlib.Core.Logic.{⊎-elim}
 use mathlib.Core.Path.{_≡_, sym, ap, _∙_, refl}
 use lib.ListN.{drop, length}
-use Rattle.records.specs.Slots.{nthFrom}
-use Rattle.records.proofs.SlotLaws.{nth-hit, nth-pass, nth-skip, nth-end}
+use Rattle.slots.specs.Slots.{nthFrom}
+use Rattle.slots.proofs.SlotLaws.{nth-hit, nth-pass, nth-skip, nth-end}
 use Rattle.mask_bits.specs.Bits.{bitsAt}
 use Rattle.mask_bits.proofs.BitLaws.{length-bits, bit-set, bit-clear}
 use Rattle.mask_bits.proofs.nth_by_bits.Statement.{statement}

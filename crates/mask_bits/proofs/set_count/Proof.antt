@@ -8,8 +8,8 @@ use lib.Count.{ones, ones-le}
 use lib.ListN.{drop}
 use Rattle.bits.specs.Bits.{fieldAt}
 use Rattle.bits.proofs.FieldLaws.{field-lt}
-use Rattle.records.specs.Slots.{setCount}
-use Rattle.records.proofs.SlotLaws.{count-end}
+use Rattle.slots.specs.Slots.{setCount}
+use Rattle.slots.proofs.SlotLaws.{count-end}
 use Rattle.mask_bits.specs.Bits.{bitsAt}
 use Rattle.mask_bits.proofs.BitLaws.{length-bits, ones-count, count-many}
 use Rattle.mask_bits.proofs.set_count.Statement.{statement}

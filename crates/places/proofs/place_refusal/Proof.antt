@@ -3,7 +3,7 @@ use borrow.Author.Tests.{not-true, not-false}
 use native.Mathlib.Omega.{arith}
 use Prim.Native.Nat.{_≤_}
 use mathlib.Core.Path.{sym, _∙_}
-use Rattle.records.specs.Slots.{setCount}
+use Rattle.slots.specs.Slots.{setCount}
 use Rattle.held_mask.specs.Mask.{maskAt}
 use Rattle.mask_bits.proofs.BitLaws.{length-bits}
 use Rattle.places.proofs.KeepLaws.{place-free, place-absent, place-ssr, place-iodp, place-past, place-good, count-le, as-past, as-within}

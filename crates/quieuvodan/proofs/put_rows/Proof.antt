@@ -6,9 +6,9 @@ use mathlib.Core.Path.{_≡_, sym, ap, _∙_, refl}
 use lib.ListN.{length}
 use Rattle.bits.specs.Bytes.{storeAt}
 use Rattle.lookback.specs.Walk.{rowsFrom}
-use Rattle.list.specs.Row.{rowSays, answerOf}
+use Rattle.row.specs.Row.{rowSays, answerOf}
 use Rattle.list.specs.Rows.{rowIn, listIn}
-use Rattle.list.specs.declared.row.RowAnswer.the-variants.{Refused}
+use Rattle.row.specs.declared.RowAnswer.the-variants.{Refused}
 use Rattle.list.proofs.AnswerLaws.{found-le, row-next}
 use Rattle.boundary.specs.Size.{rowSize}
 use Rattle.boundary.specs.Boundary.{rowsBytes}

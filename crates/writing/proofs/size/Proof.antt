@@ -1,11 +1,8 @@
-use mir.Syntax.{w16, w64}
-use mir.Val.{SFits, Fits}
-use lib.Signed.{ltZ, nonNeg}
-use lib.Dec.{T}
-use lib.IntN.{ℤ, pos, negsuc, natAbs}
+use mir.Syntax.{w16}
+use lib.Signed.{ltZ}
+use lib.IntN.{ℤ, pos}
 use mathlib.Core.Bool.{true, false}
-use Rattle.lent.proofs.SignLaws.{back, flip, flip-fits}
-use Rattle.records.proofs.SignedLaws.{not-neg, pos-mag}
+use Rattle.bits.proofs.SignLaws.{back, flip, flip-fits, cast-of, pos-mag}
 use native.Mathlib.Omega.{arith}
 use mathlib.Core.Path.{_≡_, subst}
 use Rattle.writing.proofs.size.Statement.{statement}
@@ -17,10 +14,6 @@ neg c = subst (λ (y : ℤ). ltZ y (pos 0) ≡ true) (back w16 (c .before .args 
 nonneg : (c : tie.Else1) → ltZ (c .before .args .z) (pos 0) ≡ false
 nonneg c = subst (λ (y : ℤ). ltZ y (pos 0) ≡ false) (back w16 (c .before .args .z) (c .before .fits .z)) (c .if1 .left)
 
-cast-of : (z : ℤ) → SFits w16 z → ltZ z (pos 0) ≡ false → T (nonNeg z) × Fits w64 (natAbs z)
-cast-of (pos x) f e = (tt, omega (arith, f .sfits))
-cast-of (negsuc m) f e = absurd (not-neg m e)
-
 sub-m : tie.Need-sub-m
 sub-m c = rw (back w16 (c .before .args .z) (c .before .fits .z)) (flip-fits w16 (c .before .args .z) (c .before .fits .z) (neg c))
 
@@ -28,7 +21,7 @@ cast-result : tie.Need-cast-result
 cast-result c = rw (back w16 (c .before .args .z) (c .before .fits .z), flip w16 (c .before .args .z) (c .before .fits .z) (neg c)) (tt, omega (arith, c .before .fits .z .sfits))
 
 cast-result-2 : tie.Need-cast-result-2
-cast-result-2 c = rw (back w16 (c .before .args .z) (c .before .fits .z)) (cast-of (c .before .args .z) (c .before .fits .z) (nonneg c))
+cast-result-2 c = rw (back w16 (c .before .args .z) (c .before .fits .z)) (cast-of w16 (c .before .args .z) (c .before .fits .z) tt (nonneg c))
 
 returns : tie.Need-returns
 returns c = rw (back w16 (c .before .args .z) (c .before .fits .z), flip w16 (c .before .args .z) (c .before .fits .z) (neg c))

@@ -1,4 +1,4 @@
-use Rattle.records.proofs.SignedLaws.{neg-sub}
+use Rattle.bits.proofs.SignLaws.{neg-sub}
 use lib.IntN.{negsuc}
 use mir.Facts.{toZ-pos, toZ-ofZ}
 use mir.Syntax.{w16}

@@ -10,7 +10,7 @@ use lib.ListN.{length, take, drop, length-take}
 use lib.Seq.{getD-take}
 use Rattle.records.specs.Clock.{blankClock}
 use Rattle.held_clocks.specs.Clocks.{heldClockBytes, putClocks}
-use Rattle.records.specs.Slots.{nthFrom, nthSet}
+use Rattle.slots.specs.Slots.{nthFrom, nthSet}
 use Rattle.mask_bits.proofs.PlaceLaws.{walk-on}
 use Rattle.mask_bits.proofs.BitLaws.{length-bits}
 use Rattle.mask_bits.specs.Bits.{bitsAt}

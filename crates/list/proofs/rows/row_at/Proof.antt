@@ -6,10 +6,11 @@ use lib.ListN.{length}
 use mathlib.Core.Logic.{inl}
 use Rattle.lookback.specs.Walk.{nthRowFrom, nthOf}
 use Rattle.lookback.proofs.WalkLaws.{nth-hit, nth-pass, nth-skip, nth-end, nth-rows, nth-missing}
-use Rattle.list.specs.Row.{rowSays, answerOf}
+use Rattle.row.specs.Row.{rowSays, answerOf}
 use Rattle.list.specs.Rows.{rowIn, listIn}
-use Rattle.list.specs.declared.row.RowAnswer.the-variants as answer
-use Rattle.list.proofs.AnswerLaws.{at-bad, at-right, found-some, refused-none, row-next, issues-long}
+use Rattle.row.specs.declared.RowAnswer.the-variants as answer
+use Rattle.list.proofs.AnswerLaws.{at-bad, at-right, found-some, refused-none, row-next}
+use Rattle.issues.proofs.IssueLaws.{issues-long}
 use Rattle.list.proofs.rows.row_at.Statement.{statement}
 use Rattle.list.proofs.rows.row_at.Tie as tie
 

@@ -6,11 +6,12 @@ use lib.ListN.{length, getD}
 use Rattle.lookback.specs.Walk.{countFrom, toList}
 use Rattle.lookback.proofs.WalkLaws.{count-step, count-end, count-length}
 use mathlib.Core.Option.{Option}
-use Rattle.list.specs.Row.{rowHeld}
+use Rattle.row.specs.Row.{rowHeld}
 use Rattle.list.specs.Rows.{rowIn, foundCount, countSays}
-use Rattle.list.specs.declared.row.Row.{Row}
+use Rattle.row.specs.declared.Row.{Row}
 use Rattle.list.specs.declared.rows.Count.the-variants as count
-use Rattle.list.proofs.AnswerLaws.{count-bad, count-right, count-one, found-le, row-next, issues-long}
+use Rattle.list.proofs.AnswerLaws.{count-bad, count-right, count-one, found-le, row-next}
+use Rattle.issues.proofs.IssueLaws.{issues-long}
 use Rattle.list.proofs.rows.row_count.Statement.{statement}
 use Rattle.list.proofs.rows.row_count.Tie as tie
 

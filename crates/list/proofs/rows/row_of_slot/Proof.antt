@@ -1,8 +1,8 @@
 use borrow.Author.Needs.{needs}
 use Prim.Native.Nat.{ℕ, _-_}
 use mathlib.Core.Path.{sym, ap, _∙_}
-use Rattle.list.specs.Row.{rowSays}
-use Rattle.list.specs.declared.row.RowAnswer.the-variants as answer
+use Rattle.row.specs.Row.{rowSays}
+use Rattle.row.specs.declared.RowAnswer.the-variants as answer
 use Rattle.list.proofs.AnswerLaws.{slot-len, slot-zero, slot-high, slot-bad, slot-right}
 use Rattle.list.proofs.rows.row_of_slot.Statement.{statement}
 use Rattle.list.proofs.rows.row_of_slot.Tie as tie

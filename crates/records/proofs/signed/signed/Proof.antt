@@ -5,7 +5,7 @@ use Prim.Native.Nat.{_*_, _-_}
 use lib.IntN.{negsuc}
 use mir.Syntax.{w16}
 use mir.Facts.{toZ-pos, toZ-ofZ}
-use Rattle.records.proofs.SignedLaws.{neg-sub}
+use Rattle.bits.proofs.SignLaws.{neg-sub}
 use Rattle.records.proofs.signed.signed.Statement.{statement}
 use Rattle.records.proofs.signed.signed.Tie as tie
 

@@ -1,0 +1,29 @@
+use borrow.Author.Needs.{needs}
+use Rattle.ura.proofs.code_of.Statement.{statement}
+use Rattle.ura.proofs.code_of.Tie as tie
+
+enum-told : tie.Need-enum-told
+enum-told c = search needs
+
+enum-known-u : tie.Need-enum-known-u
+enum-known-u c = search needs
+
+seek-code-requires : tie.Need-seek-code-requires
+seek-code-requires c κs = search needs
+
+enum-told-2 : tie.Need-enum-told-2
+enum-told-2 c = search needs
+
+returns : tie.Need-returns
+returns c = search needs
+
+returns-2 : tie.Need-returns-2
+returns-2 c = cc
+
+returns-3 : tie.Need-returns-3
+returns-3 c = search needs
+
+pub code-of-spec : {M : Type 1} → statement M
+code-of-spec =
+    tie.close
+    (tie.spec enum-told enum-known-u seek-code-requires enum-told-2 returns returns-2 returns-3)
