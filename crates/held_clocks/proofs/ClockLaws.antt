@@ -2,20 +2,32 @@
 use mathlib.Core.Path.{_≡_, refl, sym}
 use mathlib.Core.Logic.{_⊎_}
 use Prim.Native.Nat.{ℕ, _≤_}
-use mathlib.Core.Bool.{true}
+use mathlib.Core.Bool.{Bool, true, false}
 use mathlib.Core.List.{List, map}
+use lib.Dec.{eqb}
 use lib.ListN.{getD, length}
 use native.Mathlib.Omega.{arith}
+use Rattle.bits.specs.Pick.{pick}
 use Rattle.bits.specs.Bytes.{Kept}
-use Rattle.lookback.specs.Store.{Named, putAll, unplaced}
+use Rattle.lookback.specs.Store.{Named, replaceAll, unplaced}
 use Rattle.lent.specs.Digits.{zigOf}
-use Rattle.lent.proofs.HeldLaws.{put-room, puts-room, puts-view, AllHeld, held-sound, helds-kept}
+use Rattle.lent.proofs.HeldLaws.{replace-room, replaces-room, replaces-view, AllHeld, held-sound, helds-kept}
 use Rattle.lent.proofs.DropLaws.{drop-room, dropped-view}
 use Rattle.lent.proofs.DigitLaws.{pair-back, quad-back, zag-zig, flag-back}
 use Rattle.held_mask.specs.Size.{size}
-use Rattle.held_clocks.specs.Clocks.{heldClockAt, clockOffset, noClock, clocksKept, heldClockBytes, heldClockOf, heldClocksAt, putClock, putClocks, droppedClocks}
+use Rattle.newest.specs.Newest.{replaces, stampAt}
+use Rattle.held_clocks.specs.Clocks.{clockStamp, clockReplaces, heldClockAt, clockOffset, noClock, clocksKept, heldClockBytes, heldClockIn, heldClockOf, heldClocksAt, replaceClock, replaceClocks, droppedClocks}
 use Rattle.held_clocks.specs.declared.HeldClock.{HeldClock}
 use Rattle.held_clocks.proofs.ReadLaws.{clock-none}
+
+-- ---- what decides of the clock that a row says
+pub clock-row : (r : List ℕ) (h : HeldClock) → replaces (eqb (getD r 0 0) 1) (stampAt r 2 6 7) (clockStamp h) ≡ clockReplaces (heldClockOf r) h
+unfolding replaces clockReplaces
+clock-row r h = go (eqb (getD r 0 0) 1)
+  where
+    go : (b : Bool) → replaces b (stampAt r 2 6 7) (clockStamp h) ≡ clockReplaces (pick b (heldClockIn r) noClock) h
+    go true = refl
+    go false = refl
 
 -- ---- there and back
 pub clock-long : (h : HeldClock) → length (heldClockBytes h) ≡ 12
@@ -29,13 +41,13 @@ clock-sound h e = rw (e, quad-back (h .epoch), pair-back (zigOf (h .c0)), zag-zi
 pub no-clock-sound : heldClockOf (heldClockBytes noClock) ≡ noClock
 no-clock-sound = refl
 
--- ---- what the bytes say: putting named clocks is `putAll` on the list that the bytes say
+-- ---- what the bytes say: named clocks put where they replace what is held are put so into the list that the bytes say
 abbrev pub ClocksHeld : List (Named HeldClock) → Type 0
 ClocksHeld ns = AllHeld (λ (h : HeldClock). h .has) ns
 
 module _ (s : List ℕ) (long : length s ≡ size) where
-  pub clocks-view : (ns : List (Named HeldClock)) → ClocksHeld ns → heldClocksAt (putClocks s ns) ≡ putAll (heldClocksAt s) ns
-  clocks-view ns a = puts-view heldClockOf heldClockBytes 12 clock-long s 36 ns (omega arith) (held-sound heldClockOf heldClockBytes 12 clock-long (λ (h : HeldClock). h .has) clock-sound ns a)
+  pub clocks-view : (ns : List (Named HeldClock)) → ClocksHeld ns → heldClocksAt (replaceClocks s ns) ≡ replaceAll clockReplaces noClock (heldClocksAt s) ns
+  clocks-view ns a = replaces-view clockReplaces noClock heldClockOf heldClockBytes 12 clock-long s 36 ns (omega arith) (held-sound heldClockOf heldClockBytes 12 clock-long (λ (h : HeldClock). h .has) clock-sound ns a)
 
   -- 01, What the ledger keeps: clocks that came by place are gone
   pub clocks-dropped : heldClocksAt (droppedClocks s 255) ≡ map (unplaced clocksKept) (heldClocksAt s)
@@ -43,11 +55,11 @@ module _ (s : List ℕ) (long : length s ≡ size) where
 
 -- ---- what each step keeps, of bytes of any length
 module _ (s : List ℕ) where
-  pub clock-room : (slot : ℕ) (h : HeldClock) → Kept 36 3096 s (putClock s slot h)
-  clock-room slot h = put-room heldClockOf heldClockBytes 12 clock-long s 36 slot h
+  pub clock-room : (slot : ℕ) (h : HeldClock) → Kept 36 3096 s (replaceClock s slot h)
+  clock-room slot h = replace-room clockReplaces noClock heldClockOf heldClockBytes 12 clock-long s 36 slot h
 
-  pub clocks-room : (ns : List (Named HeldClock)) → Kept 36 3096 s (putClocks s ns)
-  clocks-room ns = puts-room heldClockOf heldClockBytes 12 clock-long s 36 ns
+  pub clocks-room : (ns : List (Named HeldClock)) → Kept 36 3096 s (replaceClocks s ns)
+  clocks-room ns = replaces-room clockReplaces noClock heldClockOf heldClockBytes 12 clock-long s 36 ns
 
   pub dropped-room : (n : ℕ) → Kept 36 3096 s (droppedClocks s n)
   dropped-room n = drop-room clocksKept heldClockOf heldClockBytes 12 clock-long s 36 n

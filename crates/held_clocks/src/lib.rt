@@ -1,6 +1,8 @@
 // The clocks that a ledger keeps, as lent bytes: docs/FORM.md. Any bytes are such a form; bytes past the end are 0.
 ghost use mathlib.Core.Path.{_≡_};
-ghost use Rattle.held_clocks.specs.Clocks.{noClock, heldClockBytes, clockOffset, heldClockAt, putClock, dropClock, droppedClocks};
+ghost use Rattle.bits.specs.Bytes.{storeAt};
+ghost use Rattle.held_clocks.specs.Clocks.{noClock, heldClockBytes, clockOffset, clockReplaces, heldClockOf, heldClockAt, clockTarget, putClock, replaceClock, dropClock, droppedClocks};
+use newest::Stamp;
 use slots::Slot;
 
 // A clock as it is kept: its part's epoch and IOD SSR, and whether it came by place. C0 is raw.
@@ -88,7 +90,7 @@ pub fn get_clock(t: &[u8], slot: Slot) -> HeldClock
 }
 
 // A clock is kept for a slot; slot 0 is none.
-pub fn put_clock(t: &mut [u8], slot: Slot, h: HeldClock)
+fn put_clock(t: &mut [u8], slot: Slot, h: HeldClock)
     ensures { λ r. ⌜ now (t .exit) ≡ putClock (now (t .entry)) (slot .0) h ⌝ }
 {
     if slot.0 == 0 {
@@ -97,6 +99,56 @@ pub fn put_clock(t: &mut [u8], slot: Slot, h: HeldClock)
     let at = clock_offset(slot);
     let b = clock_bytes(h);
     lent::store(t, at, &b);
+}
+
+// Whether a clock replaces the one that a row of bytes says.
+fn clock_replaces(r: &[u8], h: HeldClock) -> bool
+    ensures { λ b. ⌜ b ≡ clockReplaces (heldClockOf (now (r .entry))) h ⌝ }
+{
+    let new = Stamp {
+        ssr: h.ssr,
+        corr: h.corr,
+        epoch: h.epoch,
+    };
+    newest::replaces_in(r, 2, 6, 7, new)
+}
+
+// Where a clock is stored: at its slot's offset if it replaces the one kept there, else past the end, where it is lost.
+fn clock_target(t: &[u8], slot: Slot, h: HeldClock) -> usize
+    ensures { λ r. ⌜ r ≡ clockTarget (now (t .entry)) (slot .0) h ⌝ }
+{
+    if slot.0 == 0 {
+        return t.len();
+    }
+    let at = clock_offset(slot);
+    let end = at + 12;
+    if t.len() < end {
+        return t.len();
+    }
+    if clock_replaces(&t[at..end], h) {
+        at
+    } else {
+        t.len()
+    }
+}
+
+// The bytes of a clock are stored from `at` on; past the end they are lost.
+fn put_at(t: &mut [u8], at: usize, h: HeldClock)
+    ensures { λ r. ⌜ now (t .exit) ≡ storeAt (now (t .entry)) at (heldClockBytes h) ⌝ }
+{
+    if at >= t.len() {
+        return;
+    }
+    let b = clock_bytes(h);
+    lent::store(t, at, &b);
+}
+
+// A clock is kept for a slot where it replaces the one kept there now; slot 0 is none.
+pub fn replace_clock(t: &mut [u8], slot: Slot, h: HeldClock)
+    ensures { λ r. ⌜ now (t .exit) ≡ replaceClock (now (t .entry)) (slot .0) h ⌝ }
+{
+    let at = clock_target(t, slot, h);
+    put_at(t, at, h);
 }
 
 // A slot's clock is dropped if it came by place.

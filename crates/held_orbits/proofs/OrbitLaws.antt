@@ -2,21 +2,33 @@
 use mathlib.Core.Path.{_≡_, refl, sym}
 use mathlib.Core.Logic.{_⊎_}
 use Prim.Native.Nat.{ℕ, _≤_}
-use mathlib.Core.Bool.{true}
+use mathlib.Core.Bool.{Bool, true, false}
 use mathlib.Core.List.{List}
+use lib.Dec.{eqb}
 use lib.ListN.{getD, length}
 use native.Mathlib.Omega.{arith}
+use Rattle.bits.specs.Pick.{pick}
 use Rattle.bits.specs.Bytes.{Kept}
-use Rattle.lookback.specs.Store.{Named, putAll}
+use Rattle.lookback.specs.Store.{Named, replaceAll}
 use Rattle.lent.specs.Digits.{zigOf}
-use Rattle.lent.proofs.HeldLaws.{puts-room, puts-view, AllHeld, held-sound, helds-kept}
+use Rattle.lent.proofs.HeldLaws.{replaces-room, replaces-view, AllHeld, held-sound, helds-kept}
 use Rattle.lent.proofs.DigitLaws.{pair-back, quad-back, zag-zig}
 use Rattle.ura.specs.Ura.{quartersIn}
 use Rattle.ura.proofs.UraLaws.{kind-back}
 use Rattle.held_mask.specs.Size.{size}
-use Rattle.held_orbits.specs.Orbits.{heldOrbitAt, orbitOffset, noOrbit, heldOrbitBytes, heldOrbitOf, heldOrbitsAt, putOrbits}
+use Rattle.newest.specs.Newest.{replaces, stampAt}
+use Rattle.held_orbits.specs.Orbits.{orbitStamp, orbitReplaces, heldOrbitAt, orbitOffset, noOrbit, heldOrbitBytes, heldOrbitIn, heldOrbitOf, heldOrbitsAt, replaceOrbits}
 use Rattle.held_orbits.specs.declared.HeldOrbit.{HeldOrbit}
 use Rattle.held_orbits.proofs.ReadLaws.{orbit-none}
+
+-- ---- what decides of the orbit that a row says
+pub orbit-row : (r : List ℕ) (h : HeldOrbit) → replaces (eqb (getD r 0 0) 1) (stampAt r 1 5 8) (orbitStamp h) ≡ orbitReplaces (heldOrbitOf r) h
+unfolding replaces orbitReplaces
+orbit-row r h = go (eqb (getD r 0 0) 1)
+  where
+    go : (b : Bool) → replaces b (stampAt r 1 5 8) (orbitStamp h) ≡ orbitReplaces (pick b (heldOrbitIn r) noOrbit) h
+    go true = refl
+    go false = refl
 
 -- ---- there and back
 pub orbit-long : (h : HeldOrbit) → length (heldOrbitBytes h) ≡ 24
@@ -43,18 +55,18 @@ orbit-sound h e =
 pub no-orbit-sound : heldOrbitOf (heldOrbitBytes noOrbit) ≡ noOrbit
 no-orbit-sound = refl
 
--- ---- what the bytes say: putting named orbits is `putAll` on the list that the bytes say
+-- ---- what the bytes say: named orbits put where they replace what is held are put so into the list that the bytes say
 abbrev pub OrbitsHeld : List (Named HeldOrbit) → Type 0
 OrbitsHeld ns = AllHeld (λ (h : HeldOrbit). h .has) ns
 
 module _ (s : List ℕ) (long : length s ≡ size) where
-  pub orbits-view : (ns : List (Named HeldOrbit)) → OrbitsHeld ns → heldOrbitsAt (putOrbits s ns) ≡ putAll (heldOrbitsAt s) ns
-  orbits-view ns a = puts-view heldOrbitOf heldOrbitBytes 24 orbit-long s 3096 ns (omega arith) (held-sound heldOrbitOf heldOrbitBytes 24 orbit-long (λ (h : HeldOrbit). h .has) orbit-sound ns a)
+  pub orbits-view : (ns : List (Named HeldOrbit)) → OrbitsHeld ns → heldOrbitsAt (replaceOrbits s ns) ≡ replaceAll orbitReplaces noOrbit (heldOrbitsAt s) ns
+  orbits-view ns a = replaces-view orbitReplaces noOrbit heldOrbitOf heldOrbitBytes 24 orbit-long s 3096 ns (omega arith) (held-sound heldOrbitOf heldOrbitBytes 24 orbit-long (λ (h : HeldOrbit). h .has) orbit-sound ns a)
 
 -- ---- what each step keeps, of bytes of any length
 module _ (s : List ℕ) where
-  pub orbits-room : (ns : List (Named HeldOrbit)) → Kept 3096 9216 s (putOrbits s ns)
-  orbits-room ns = puts-room heldOrbitOf heldOrbitBytes 24 orbit-long s 3096 ns
+  pub orbits-room : (ns : List (Named HeldOrbit)) → Kept 3096 9216 s (replaceOrbits s ns)
+  orbits-room ns = replaces-room orbitReplaces noOrbit heldOrbitOf heldOrbitBytes 24 orbit-long s 3096 ns
 
 -- orbits are as they were where their bytes are
 pub orbits-kept : (lo hi : ℕ) (s t : List ℕ) → Kept lo hi s t → (9216 ≤ lo) ⊎ (hi ≤ 3096) → heldOrbitsAt t ≡ heldOrbitsAt s

@@ -1,7 +1,7 @@
 -- docs/FORM.md: the orbits that a ledger keeps, as lent bytes: 255 of 24 bytes from byte 3096 on, up to its end. First byte 1 means held; anything else is
 -- the absent record.
 use Prim.Native.Nat.{ℕ, _/_, _%_}
-use mathlib.Core.Bool.{true, false}
+use mathlib.Core.Bool.{Bool, true, false}
 use mathlib.Core.List.{List, [], _∷_}
 use lib.Dec.{eqb}
 use lib.IntN.{pos}
@@ -9,14 +9,24 @@ use lib.ListN.{getD}
 use Rattle.bits.specs.Pick.{pick}
 use Rattle.lookback.specs.Store.{Named}
 use Rattle.lent.specs.Digits.{flagOf, zigOf, zagOf, pairOf, quadOf}
-use Rattle.lent.specs.Held.{offset, heldAt, heldsAt, putHeld, putHelds}
+use Rattle.lent.specs.Held.{offset, heldAt, heldsAt, replaceHeld, replaceHelds, targetOf}
 use Rattle.ura.specs.Ura.{kindOf, quartersIn, heldUra}
 use Rattle.ura.specs.declared.Ura.the-variants.{Unknown}
+use Rattle.newest.specs.Newest.{replaces}
+use Rattle.newest.specs.declared.Stamp.{Stamp}
 use Rattle.held_orbits.specs.declared.HeldOrbit.{HeldOrbit}
 
 -- 01, What the ledger keeps: the slot has no orbit
 abbrev pub noOrbit : HeldOrbit
 noOrbit = record { has = false; epoch = 0; ssr = 0; iodn = 0; corr = 0; radial = pos 0; along = pos 0; cross = pos 0; ura = Unknown }
+
+-- what decides which orbit counts
+abbrev pub orbitStamp : HeldOrbit → Stamp
+orbitStamp h = record { ssr = h .ssr; corr = h .corr; epoch = h .epoch }
+
+-- 02, CR 3: an orbit replaces the one held
+unfoldable pub orbitReplaces : HeldOrbit → HeldOrbit → Bool
+orbitReplaces held new = replaces (held .has) (orbitStamp held) (orbitStamp new)
 
 -- FORM: held (1), epoch (4), IOD SSR (1), IODN (2), IOD Corr (1), radial, along, cross (2 each), URA's kind (1) and quarters (4), 4 spare
 abbrev pub heldOrbitBytes : HeldOrbit → List ℕ
@@ -47,11 +57,10 @@ heldOrbitBytes h =
     ∷ 0
     ∷ []
 
--- FORM: the orbit that its bytes say
-abbrev pub heldOrbitOf : List ℕ → HeldOrbit
-heldOrbitOf r =
-    pick (eqb (getD r 0 0) 1)
-    (record {
+-- FORM: the orbit that the bytes of a held one say
+abbrev pub heldOrbitIn : List ℕ → HeldOrbit
+heldOrbitIn r =
+    record {
       has = true;
       epoch = quadOf (pairOf (getD r 1 0) (getD r 2 0)) (pairOf (getD r 3 0) (getD r 4 0));
       ssr = getD r 5 0;
@@ -61,8 +70,11 @@ heldOrbitOf r =
       along = zagOf (pairOf (getD r 11 0) (getD r 12 0));
       cross = zagOf (pairOf (getD r 13 0) (getD r 14 0));
       ura = heldUra (getD r 15 0) (quadOf (pairOf (getD r 16 0) (getD r 17 0)) (pairOf (getD r 18 0) (getD r 19 0)));
-    })
-    noOrbit
+    }
+
+-- FORM: the orbit that its bytes say; first byte 1 means held
+abbrev pub heldOrbitOf : List ℕ → HeldOrbit
+heldOrbitOf r = pick (eqb (getD r 0 0) 1) (heldOrbitIn r) noOrbit
 
 -- FORM: where the orbit of a slot begins
 abbrev pub orbitOffset : ℕ → ℕ
@@ -76,10 +88,14 @@ heldOrbitAt s slot = heldAt heldOrbitOf 24 s 3096 slot
 abbrev pub heldOrbitsAt : List ℕ → List HeldOrbit
 heldOrbitsAt s = heldsAt heldOrbitOf 24 s 3096
 
--- the bytes with an orbit kept for a slot
-abbrev pub putOrbit : List ℕ → ℕ → HeldOrbit → List ℕ
-putOrbit s slot h = putHeld heldOrbitBytes 24 s 3096 slot h
+-- the bytes with an orbit kept for a slot where it replaces the one held
+abbrev pub replaceOrbit : List ℕ → ℕ → HeldOrbit → List ℕ
+replaceOrbit s slot h = replaceHeld orbitReplaces heldOrbitOf heldOrbitBytes 24 s 3096 slot h
 
--- the bytes with named orbits kept, one after the other
-abbrev pub putOrbits : List ℕ → List (Named HeldOrbit) → List ℕ
-putOrbits s ns = putHelds heldOrbitBytes 24 s 3096 ns
+-- where such an orbit is stored
+abbrev pub orbitTarget : List ℕ → ℕ → HeldOrbit → ℕ
+orbitTarget s slot h = targetOf orbitReplaces heldOrbitOf 24 s 3096 slot h
+
+-- the bytes with named orbits kept so, one after the other
+abbrev pub replaceOrbits : List ℕ → List (Named HeldOrbit) → List ℕ
+replaceOrbits s ns = replaceHelds orbitReplaces heldOrbitOf heldOrbitBytes 24 s 3096 ns

@@ -1,6 +1,8 @@
 // The orbits that a ledger keeps, as lent bytes: docs/FORM.md. Any bytes are such a form; bytes past the end are 0.
 ghost use mathlib.Core.Path.{_≡_};
-ghost use Rattle.held_orbits.specs.Orbits.{noOrbit, heldOrbitBytes, orbitOffset, heldOrbitAt, putOrbit};
+ghost use Rattle.bits.specs.Bytes.{storeAt};
+ghost use Rattle.held_orbits.specs.Orbits.{noOrbit, heldOrbitBytes, orbitOffset, orbitReplaces, heldOrbitOf, orbitTarget, heldOrbitAt, replaceOrbit};
+use newest::Stamp;
 use slots::Slot;
 use ura::Ura;
 use ura::held_ura;
@@ -121,14 +123,52 @@ pub fn get_orbit(t: &[u8], slot: Slot) -> HeldOrbit
     }
 }
 
-// An orbit is kept for a slot; slot 0 is none.
-pub fn put_orbit(t: &mut [u8], slot: Slot, h: HeldOrbit)
-    ensures { λ r. ⌜ now (t .exit) ≡ putOrbit (now (t .entry)) (slot .0) h ⌝ }
+// Whether an orbit replaces the one that a row of bytes says.
+fn orbit_replaces(r: &[u8], h: HeldOrbit) -> bool
+    ensures { λ b. ⌜ b ≡ orbitReplaces (heldOrbitOf (now (r .entry))) h ⌝ }
+{
+    let new = Stamp {
+        ssr: h.ssr,
+        corr: h.corr,
+        epoch: h.epoch,
+    };
+    newest::replaces_in(r, 1, 5, 8, new)
+}
+
+// Where an orbit is stored: at its slot's offset if it replaces the one kept there, else past the end, where it is lost.
+fn orbit_target(t: &[u8], slot: Slot, h: HeldOrbit) -> usize
+    ensures { λ r. ⌜ r ≡ orbitTarget (now (t .entry)) (slot .0) h ⌝ }
 {
     if slot.0 == 0 {
-        return;
+        return t.len();
     }
     let at = orbit_offset(slot);
+    let end = at + 24;
+    if t.len() < end {
+        return t.len();
+    }
+    if orbit_replaces(&t[at..end], h) {
+        at
+    } else {
+        t.len()
+    }
+}
+
+// The bytes of an orbit are stored from `at` on; past the end they are lost.
+fn put_at(t: &mut [u8], at: usize, h: HeldOrbit)
+    ensures { λ r. ⌜ now (t .exit) ≡ storeAt (now (t .entry)) at (heldOrbitBytes h) ⌝ }
+{
+    if at >= t.len() {
+        return;
+    }
     let b = orbit_bytes(h);
     lent::store(t, at, &b);
+}
+
+// An orbit is kept for a slot where it replaces the one kept there now; slot 0 is none.
+pub fn replace_orbit(t: &mut [u8], slot: Slot, h: HeldOrbit)
+    ensures { λ r. ⌜ now (t .exit) ≡ replaceOrbit (now (t .entry)) (slot .0) h ⌝ }
+{
+    let at = orbit_target(t, slot, h);
+    put_at(t, at, h);
 }

@@ -9,15 +9,17 @@ use lib.Dec.{eqb}
 use lib.ListN.{length, getD}
 use native.Mathlib.Decide.{ℕ-discrete}
 use native.Mathlib.Omega.{arith}
+use borrow.Author.Tests.{eqb-true}
 use Rattle.bits.specs.Pick.{pick}
 use Rattle.verdict.proofs.NumberLaws.{number-last}
 use Rattle.frame.specs.Frame.{contentsOf, foreignTo, refusalWith}
-use Rattle.lookback.specs.Store.{naming, getOr, putAll, kept}
-use Rattle.lookback.proofs.StoreLaws.{flat, putAll-at, LooksBack, store-step, store-idle}
+use Rattle.lookback.specs.Store.{naming, getOr, replacing, replaceAll, kept}
+use Rattle.lookback.proofs.ReplaceLaws.{flat, replaceAll-at}
+use Rattle.lookback.proofs.StoreLaws.{LooksBack, store-step, store-idle}
 use Rattle.lent.proofs.HeldLaws.{length-helds}
 use Rattle.held_mask.specs.Size.{size}
-use Rattle.held_clocks.specs.Clocks.{noClock, clocksKept, heldClockOf, heldClocksAt}
-use Rattle.held_orbits.specs.Orbits.{noOrbit, heldOrbitOf, heldOrbitsAt}
+use Rattle.held_clocks.specs.Clocks.{noClock, clocksKept, clockReplaces, heldClockOf, heldClocksAt}
+use Rattle.held_orbits.specs.Orbits.{noOrbit, orbitReplaces, heldOrbitOf, heldOrbitsAt}
 use Rattle.held_clocks.specs.declared.HeldClock.{HeldClock}
 use Rattle.held_orbits.specs.declared.HeldOrbit.{HeldOrbit}
 use Rattle.held_mask.specs.Mask.{HeldMask, sameMask, maskAt}
@@ -26,6 +28,7 @@ use Rattle.places.specs.Keeps.{maskOf, orbitsOf, clocksOf, refusalUnder, saysUn
 use Rattle.in_force.specs.Back.{maskInForce, refusalAfter, saysAfter, accepted, maskBy, orbitBy, clockBy, orbitInForce, clockBack}
 use Rattle.in_force.specs.Bytes.{fresh, takenBytes, takeRefusal, takeSays, takeBytes, runBytes, Holds}
 use Rattle.places.proofs.KeepLaws.{mask-other, mask-kind, mask-clocks, mask-free}
+use Rattle.places.proofs.OnceLaws.{orbit-once, clock-once}
 use Rattle.in_force.proofs.ViewLaws.{taken-room, taken-mask, taken-orbits, taken-clocks, clock-listed, orbit-listed, fresh-long, fresh-prn, fresh-mask, fresh-clock, fresh-orbit}
 
 -- ---- whether a type 1 is accepted depends on no other frame: no mask in force refuses it
@@ -55,7 +58,7 @@ mask-no-clock : (prn : ℕ) (h : List (List ℕ)) (f : List ℕ) (m : HeldMask) 
 unfolding clockBy naming
 mask-no-clock prn h f m s e = rw (mask-clocks (contentsOf f) (by-kind prn f m e) (maskInForce prn h)) (flat (accepted prn h f) none)
 
-clocks-back : (prn : ℕ) → LooksBack clocksKept sameMask (maskBy prn) (maskInForce prn) (clockBy prn) (clockBack prn)
+clocks-back : (prn : ℕ) → LooksBack clocksKept sameMask clockReplaces (maskBy prn) (maskInForce prn) (clockBy prn) (clockBack prn)
 unfolding maskInForce clockBack
 clocks-back prn = record {
   same-eq = mask-eq;
@@ -80,8 +83,8 @@ module _ (s : List ℕ) (prn : ℕ) (h : List (List ℕ)) (f : List ℕ) (H : Ho
       let c = contentsOf f in
       let os = orbitsOf (c .kind) (c .orbit) in
       ap (λ (xs : List HeldOrbit). getD xs (slot - 1) noOrbit) (taken-orbits s c (H .long))
-      ∙ putAll-at (heldOrbitsAt s) os slot noOrbit p (omega (arith, length-helds heldOrbitOf 24 s 3096))
-      ∙ ap (getOr (naming slot os)) (sym (orbit-listed s slot p q) ∙ H .orbit slot p q)
+      ∙ replaceAll-at orbitReplaces noOrbit (heldOrbitsAt s) os slot p (omega (arith, length-helds heldOrbitOf 24 s 3096)) (orbit-once prn (maskInForce prn h) f (eqb-true _ _ a) slot p)
+      ∙ ap (λ (d : HeldOrbit). getOr (replacing orbitReplaces d (naming slot os)) d) (sym (orbit-listed s slot p q) ∙ H .orbit slot p q)
       ∙ rw a
 
   step-clock : accepted prn h f ≡ true → (slot : ℕ) → 1 ≤ slot → slot ≤ 255 → getD (heldClocksAt (takenBytes s (contentsOf f))) (slot - 1) noClock ≡ clockBack prn [] (f ∷ h) slot
@@ -90,9 +93,9 @@ module _ (s : List ℕ) (prn : ℕ) (h : List (List ℕ)) (f : List ℕ) (H : Ho
       let c = contentsOf f in
       let ns = clocksOf (maskInForce prn h) (c .kind) (c .clock) in
       ap (λ (xs : List HeldClock). getD xs (slot - 1) noClock) (taken-clocks s c (H .long))
-      ∙ ap (λ (m : HeldMask). getD (putAll (kept clocksKept sameMask (maskOf c) m (heldClocksAt s)) (clocksOf m (c .kind) (c .clock))) (slot - 1) noClock) (H .mask)
-      ∙ ap (λ (o : Option HeldMask). getD (putAll (kept clocksKept sameMask o (maskInForce prn h) (heldClocksAt s)) ns) (slot - 1) noClock) (taken-on a)
-      ∙ store-step (clocks-back prn) f h (heldClocksAt s) ns slot p (omega (arith, length-helds heldClockOf 12 s 36)) (sym (clock-listed s slot p q) ∙ H .clock slot p q) (rw a)
+      ∙ ap (λ (m : HeldMask). getD (replaceAll clockReplaces noClock (kept clocksKept sameMask (maskOf c) m (heldClocksAt s)) (clocksOf m (c .kind) (c .clock))) (slot - 1) noClock) (H .mask)
+      ∙ ap (λ (o : Option HeldMask). getD (replaceAll clockReplaces noClock (kept clocksKept sameMask o (maskInForce prn h) (heldClocksAt s)) ns) (slot - 1) noClock) (taken-on a)
+      ∙ store-step (clocks-back prn) f h (heldClocksAt s) ns slot p (omega (arith, length-helds heldClockOf 12 s 36)) (clock-once prn (maskInForce prn h) f (eqb-true _ _ a) slot p) (sym (clock-listed s slot p q) ∙ H .clock slot p q) (rw a)
 
   step-taken : accepted prn h f ≡ true → Holds (takenBytes s (contentsOf f)) prn (f ∷ h)
   unfolding maskInForce

@@ -12,8 +12,8 @@ use Rattle.verdict.proofs.NumberLaws.{number-back}
 use Rattle.frame.specs.Frame.{contentsOf, foreignTo, shellRefusal, refusalWith, frameSays, shellFor}
 use Rattle.frame.proofs.FrameLaws.{leading, second}
 use Rattle.frame.proofs.VerdictLaws.{told-alone, frame-number, contents-not-6, frame-not-19}
-use Rattle.held_orbits.specs.Orbits.{heldOrbitsAt, putOrbits}
-use Rattle.held_clocks.specs.Clocks.{putClocks}
+use Rattle.held_orbits.specs.Orbits.{heldOrbitsAt, replaceOrbits}
+use Rattle.held_clocks.specs.Clocks.{replaceClocks}
 use Rattle.held_mask.specs.Mask.{HeldMask, maskAt}
 use Rattle.places.specs.Keeps.{orbitsOf, clocksOf, maskRefusal, placeSays, refusalUnder, saysUnder}
 use Rattle.in_force.specs.Bytes.{prnAt, maskBytes, takenBytes, takeRefusal, takeSays, takeBytes}
@@ -140,7 +140,7 @@ module _ (s f : List ℕ) where
 
       -- taken
       pub way-taken : numberIn p ≡ 0 → contentsOf f .kind ≢ 1 → (t : List ℕ) →
-          t ≡ putOrbits (putClocks s (clocksOf (maskAt s) (contentsOf f .kind) (contentsOf f .clock))) (orbitsOf (contentsOf f .kind) (contentsOf f .orbit)) →
+          t ≡ replaceOrbits (replaceClocks s (clocksOf (maskAt s) (contentsOf f .kind) (contentsOf f .clock))) (orbitsOf (contentsOf f .kind) (contentsOf f .orbit)) →
           ([] ≡ takeSays s f) × (t ≡ takeBytes s f)
       unfolding placeSays
       way-taken y k t b =

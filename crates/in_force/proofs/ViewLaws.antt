@@ -15,11 +15,11 @@ use Rattle.bits.specs.Bytes.{storeAt, Kept}
 use Rattle.bits.proofs.ByteLaws.{kept-same, kept-trans, kept-wide, kept-store}
 use Rattle.contents.specs.declared.parts.MaskPart.{MaskPart}
 use Rattle.contents.specs.declared.parts.Contents.{Contents}
-use Rattle.lookback.specs.Store.{Named, putAll, getOr, kept, unplaced}
+use Rattle.lookback.specs.Store.{Named, replaceAll, getOr, kept, unplaced}
 use Rattle.lent.proofs.HeldLaws.{getD-helds, held-kept}
 use Rattle.held_mask.specs.Size.{size}
-use Rattle.held_clocks.specs.Clocks.{clocksKept, heldClockOf, heldClocksAt, putClock, putClocks, droppedClocks, noClock, heldClockAt}
-use Rattle.held_orbits.specs.Orbits.{heldOrbitOf, heldOrbitsAt, putOrbits, noOrbit, heldOrbitAt}
+use Rattle.held_clocks.specs.Clocks.{clocksKept, clockReplaces, heldClockOf, heldClocksAt, replaceClock, replaceClocks, droppedClocks, noClock, heldClockAt}
+use Rattle.held_orbits.specs.Orbits.{orbitReplaces, heldOrbitOf, heldOrbitsAt, replaceOrbits, noOrbit, heldOrbitAt}
 use Rattle.held_clocks.specs.declared.HeldClock.{HeldClock}
 use Rattle.held_orbits.specs.declared.HeldOrbit.{HeldOrbit}
 use Rattle.held_clocks.proofs.ClockLaws.{clocks-view, clocks-dropped, clock-room, clocks-room, dropped-room, clocks-kept, zero-clock}
@@ -39,7 +39,7 @@ module _ (s : List ℕ) (c : Contents) where
   unfolding takenBytes
   taken-1 k = rw (eq-eqb (c .kind) 1 k)
 
-  pub taken-other : c .kind ≢ 1 → takenBytes s c ≡ putOrbits (putClocks s (clocksOf (maskAt s) (c .kind) (c .clock))) (orbitsOf (c .kind) (c .orbit))
+  pub taken-other : c .kind ≢ 1 → takenBytes s c ≡ replaceOrbits (replaceClocks s (clocksOf (maskAt s) (c .kind) (c .clock))) (orbitsOf (c .kind) (c .orbit))
   unfolding takenBytes
   taken-other k = rw (ne-eqb (c .kind) 1 k)
 
@@ -83,12 +83,12 @@ module _ (s : List ℕ) (m : MaskPart) (long : length s ≡ size) where
 
 -- ---- records taken
 -- a clock put leaves the bits of the mask
-pub clock-bits : (s : List ℕ) (slot : ℕ) (h : HeldClock) → bitsAt (putClock s slot h) ≡ bitsAt s
-clock-bits s slot h = ap (λ (m : HeldMask). m .bits) (mask-kept 36 3096 s (putClock s slot h) (clock-room s slot h) (inl (omega arith)))
+pub clock-bits : (s : List ℕ) (slot : ℕ) (h : HeldClock) → bitsAt (replaceClock s slot h) ≡ bitsAt s
+clock-bits s slot h = ap (λ (m : HeldMask). m .bits) (mask-kept 36 3096 s (replaceClock s slot h) (clock-room s slot h) (inl (omega arith)))
 
-records-room : (s : List ℕ) (ks : List (Named HeldClock)) (os : List (Named HeldOrbit)) → Kept 36 9216 s (putOrbits (putClocks s ks) os)
+records-room : (s : List ℕ) (ks : List (Named HeldClock)) (os : List (Named HeldOrbit)) → Kept 36 9216 s (replaceOrbits (replaceClocks s ks) os)
 records-room s ks os =
-    kept-trans (kept-wide 36 9216 (clocks-room s ks) (omega arith) (omega arith)) (kept-wide 36 9216 (orbits-room (putClocks s ks) os) (omega arith) (omega arith))
+    kept-trans (kept-wide 36 9216 (clocks-room s ks) (omega arith) (omega arith)) (kept-wide 36 9216 (orbits-room (replaceClocks s ks) os) (omega arith) (omega arith))
 
 -- ---- THE LAWS: what the bytes say when contents are taken
 -- nothing but the mask, the clocks and the orbits changes
@@ -105,8 +105,8 @@ module _ (s : List ℕ) (c : Contents) (long : length s ≡ size) where
       (λ k. ap maskAt (taken-1 s c k) ∙ mask-bytes-mask s (c .mask) long ∙ rw (mask-1 c k))
       (λ k. ap maskAt (taken-other s c k) ∙ mask-kept 36 9216 s _ (records-room s _ _) (inl (omega arith)) ∙ rw (mask-other c k))
 
-  pub taken-orbits : heldOrbitsAt (takenBytes s c) ≡ putAll (heldOrbitsAt s) (orbitsOf (c .kind) (c .orbit))
-  unfolding putAll
+  pub taken-orbits : heldOrbitsAt (takenBytes s c) ≡ replaceAll orbitReplaces noOrbit (heldOrbitsAt s) (orbitsOf (c .kind) (c .orbit))
+  unfolding replaceAll
   taken-orbits =
       dite (ℕ-discrete (c .kind) 1)
       (λ k. ap heldOrbitsAt (taken-1 s c k) ∙ mask-bytes-orbits s (c .mask) long ∙ rw (mask-orbits c k))
@@ -114,11 +114,11 @@ module _ (s : List ℕ) (c : Contents) (long : length s ≡ size) where
       let ks = clocksOf (maskAt s) (c .kind) (c .clock) in
       let os = orbitsOf (c .kind) (c .orbit) in
       ap heldOrbitsAt (taken-other s c k)
-      ∙ orbits-view (putClocks s ks) (clocks-room s ks .long ∙ long) os (orbits-held (c .kind) (c .orbit))
-      ∙ ap (λ (xs : List HeldOrbit). putAll xs os) (orbits-by-clocks s ks))
+      ∙ orbits-view (replaceClocks s ks) (clocks-room s ks .long ∙ long) os (orbits-held (c .kind) (c .orbit))
+      ∙ ap (λ (xs : List HeldOrbit). replaceAll orbitReplaces noOrbit xs os) (orbits-by-clocks s ks))
 
-  pub taken-clocks : heldClocksAt (takenBytes s c) ≡ putAll (kept clocksKept sameMask (maskOf c) (maskAt s) (heldClocksAt s)) (clocksOf (maskAt s) (c .kind) (c .clock))
-  unfolding putAll kept
+  pub taken-clocks : heldClocksAt (takenBytes s c) ≡ replaceAll clockReplaces noClock (kept clocksKept sameMask (maskOf c) (maskAt s) (heldClocksAt s)) (clocksOf (maskAt s) (c .kind) (c .clock))
+  unfolding replaceAll kept
   taken-clocks =
       dite (ℕ-discrete (c .kind) 1)
       (λ k. ap heldClocksAt (taken-1 s c k) ∙ mask-bytes-clocks s (c .mask) long ∙ rw (mask-1 c k, mask-clocks c k (maskAt s)))
@@ -126,7 +126,7 @@ module _ (s : List ℕ) (c : Contents) (long : length s ≡ size) where
       let ks = clocksOf (maskAt s) (c .kind) (c .clock) in
       let os = orbitsOf (c .kind) (c .orbit) in
       ap heldClocksAt (taken-other s c k)
-      ∙ clocks-by-orbits (putClocks s ks) os
+      ∙ clocks-by-orbits (replaceClocks s ks) os
       ∙ clocks-view s long ks (clocks-held (maskAt s) (c .kind) (c .clock))
       ∙ rw (mask-other c k))
 

@@ -6,9 +6,9 @@ use mathlib.Core.Option.{Option, none}
 use lib.Dec.{eqb}
 use Rattle.bits.specs.Pick.{pick}
 use Rattle.frame.specs.Frame.{contentsOf, foreignTo, refusalWith}
-use Rattle.lookback.specs.Store.{naming, getOr, standingOr, since}
-use Rattle.held_clocks.specs.Clocks.{noClock, clocksKept}
-use Rattle.held_orbits.specs.Orbits.{noOrbit}
+use Rattle.lookback.specs.Store.{naming, getOr, replacing, standingOr, since}
+use Rattle.held_clocks.specs.Clocks.{noClock, clocksKept, clockReplaces}
+use Rattle.held_orbits.specs.Orbits.{noOrbit, orbitReplaces}
 use Rattle.held_clocks.specs.declared.HeldClock.{HeldClock}
 use Rattle.held_orbits.specs.declared.HeldOrbit.{HeldOrbit}
 use Rattle.held_mask.specs.Mask.{HeldMask, noHeldMask, sameMask}
@@ -43,17 +43,18 @@ orbitBy prn h f s = pick (accepted prn h f) (naming s (orbitsOf (contentsOf f .k
 unfoldable pub clockBy : ℕ → List (List ℕ) → List ℕ → ℕ → Option HeldClock
 clockBy prn h f s = pick (accepted prn h f) (naming s (clocksOf (maskInForce prn h) (contentsOf f .kind) (contentsOf f .clock))) none
 
--- 01, Orbit in force for a slot: the latest accepted orbit record naming it. The latest to arrive counts
+-- 01, Orbit in force for a slot, and 02, CR 3: the latest accepted orbit record naming it that replaces the one in force before it
 unfoldable pub orbitInForce : ℕ → List (List ℕ) → ℕ → HeldOrbit
 orbitInForce prn [] s = noOrbit
-orbitInForce prn (f ∷ h) s = getOr (orbitBy prn h f s) (orbitInForce prn h s)
+orbitInForce prn (f ∷ h) s = getOr (replacing orbitReplaces (orbitInForce prn h s) (orbitBy prn h f s)) (orbitInForce prn h s)
 
--- 01, Clock in force: the latest accepted clock record naming the slot; none if it came by place and any mask accepted after it
--- differs from the mask it was placed by. ms are the masks accepted after the frames looked at, oldest first
+-- 01, Clock in force, and 02, CR 3: the latest accepted clock record naming the slot that replaces the one in force before it, so that a clock
+-- dropped by a mask holds nothing off; none if it came by place and any mask accepted after it differs from the mask it was placed by.
+-- ms are the masks accepted after the frames looked at, oldest first
 unfoldable pub clockBack : ℕ → List HeldMask → List (List ℕ) → ℕ → HeldClock
 clockBack prn ms [] s = noClock
 clockBack prn ms (f ∷ h) s =
-    standingOr clocksKept sameMask (clockBy prn h f s) (maskInForce prn h) ms (clockBack prn (since (maskBy prn f) ms) h s)
+    standingOr clocksKept sameMask (replacing clockReplaces (clockBack prn [] h s) (clockBy prn h f s)) (maskInForce prn h) ms (clockBack prn (since (maskBy prn f) ms) h s)
 
 -- 01, Clock in force for a slot, after the frames h
 abbrev pub clockInForce : ℕ → List (List ℕ) → ℕ → HeldClock

@@ -10,8 +10,8 @@ use Rattle.contents.specs.declared.parts.MaskPart.{MaskPart}
 use Rattle.contents.specs.declared.parts.Contents.{Contents}
 use Rattle.frame.specs.Frame.{contentsOf}
 use Rattle.held_mask.specs.Size.{size}
-use Rattle.held_clocks.specs.Clocks.{heldClockAt, putClocks, droppedClocks}
-use Rattle.held_orbits.specs.Orbits.{heldOrbitAt, putOrbits}
+use Rattle.held_clocks.specs.Clocks.{heldClockAt, replaceClocks, droppedClocks}
+use Rattle.held_orbits.specs.Orbits.{heldOrbitAt, replaceOrbits}
 use Rattle.held_mask.specs.Mask.{heldMask, sameMask, maskAt, putMask}
 use Rattle.frame.specs.Frame.{isPrn}
 use Rattle.places.specs.Keeps.{orbitsOf, clocksOf, refusalUnder, saysUnder}
@@ -29,11 +29,11 @@ fresh s prn = set (replicate (length s) 0) 0 prn
 unfoldable pub maskBytes : List ℕ → MaskPart → List ℕ
 maskBytes s m = putMask (pick (sameMask (maskAt s) (heldMask m)) s (droppedClocks s 255)) m
 
--- contents taken: a type 1's mask, or else clocks and orbits
+-- contents taken: a type 1's mask, or else clocks and orbits, each where it replaces the one held
 unfoldable pub takenBytes : List ℕ → Contents → List ℕ
 takenBytes s c =
     pick (eqb (c .kind) 1) (maskBytes s (c .mask))
-    (putOrbits (putClocks s (clocksOf (maskAt s) (c .kind) (c .clock))) (orbitsOf (c .kind) (c .orbit)))
+    (replaceOrbits (replaceClocks s (clocksOf (maskAt s) (c .kind) (c .clock))) (orbitsOf (c .kind) (c .orbit)))
 
 -- the refusal that a ledger gives a frame, 0 if it is taken
 abbrev pub takeRefusal : List ℕ → List ℕ → ℕ

@@ -2,7 +2,7 @@
 use mathlib.Core.Path.{_≡_, refl, sym, ap, _∙_}
 use mathlib.Core.Logic.{_⊎_, inl, inr, ⊎-elim, dite, _≢_}
 use Prim.Native.Nat.{ℕ, suc, _+_, _-_, _*_, _≤_, _<_}
-use mathlib.Core.Bool.{Bool, true}
+use mathlib.Core.Bool.{Bool, true, false, _&&_}
 use mathlib.Core.List.{List, [], _∷_}
 use lib.Dec.{ltb}
 use lib.ListN.{getD, length}
@@ -10,13 +10,15 @@ use lib.Seq.{set-out}
 use native.Mathlib.Nat.{mul-suc, mul-le-mul-left}
 use native.Mathlib.Decide.{ℕ-discrete, decLt}
 use native.Mathlib.Omega.{arith}
-use borrow.Author.Tests.{ne-eqb, lt-ltb, le-ltb}
+use borrow.Author.Tests.{eq-eqb, ne-eqb, lt-ltb, le-ltb}
 use Rattle.bits.specs.Pick.{pick}
 use Rattle.bits.specs.Bytes.{storeAt, rowAt, Kept}
 use Rattle.bits.proofs.TableLaws.{table-set, table-ext, length-table, getD-table}
 use Rattle.bits.proofs.ByteLaws.{row-store, row-kept, kept-same, kept-trans, kept-wide, kept-store}
-use Rattle.lookback.specs.Store.{Named, put, putAll}
-use Rattle.lent.specs.Held.{offset, heldAt, heldsAt, putHeld, putHelds}
+use Rattle.lookback.specs.Store.{Named, put, replace, replaceAll}
+use Rattle.lookback.proofs.ReplaceLaws.{flat}
+use Rattle.lent.specs.Held.{offset, heldAt, heldsAt, putHeld, hasRoom, replaceHeld, replaceHelds, targetOf}
+use Rattle.lent.proofs.PastLaws.{store-past}
 
 -- a slot's record ends where or before a later slot's begins
 ordered : (w j i : ℕ) → 0 < j → j < i → w * (j - 1) + w ≤ w * (i - 1)
@@ -29,13 +31,13 @@ within w i q p =
     let m : w * suc (i - 1) ≤ w * 255 = mul-le-mul-left w (omega arith) in
     omega (arith, mul-suc w (i - 1))
 
--- keeping for a slot above 255 is keeping for slot 0: neither is kept
-pub put-named : {A : Type 0} (bytes : A → List ℕ) (w : ℕ) (s : List ℕ) (st x : ℕ) (h : A) → putHeld bytes w s st (pick (ltb x 256) x 0) h ≡ putHeld bytes w s st x h
-unfolding putHeld
-put-named bytes w s st x h =
-    dite (decLt x 256)
-    (λ q. let e : pick {A = ℕ} (ltb x 256) x 0 ≡ x = rw (lt-ltb x 256 q) in ap (λ (i : ℕ). putHeld bytes w s st i h) e)
-    (λ q. rw (le-ltb x 256 (omega arith), ne-eqb x 0 (λ e. omega arith)))
+pub getD-helds : {A : Type 0} (of : List ℕ → A) (w : ℕ) (s : List ℕ) (st i : ℕ) (d : A) → i < 255 → getD (heldsAt of w s st) i d ≡ heldAt of w s st (i + 1)
+unfolding heldsAt
+getD-helds of w s st i d l = getD-table _ 255 i d l
+
+pub length-helds : {A : Type 0} (of : List ℕ → A) (w : ℕ) (s : List ℕ) (st : ℕ) → length (heldsAt of w s st) ≡ 255
+unfolding heldsAt
+length-helds of w s st = length-table _ 255
 
 -- every record that is named is a held one
 abbrev pub AllHeld : {A : Type 0} → (A → Bool) → List (Named A) → Type 0
@@ -115,18 +117,74 @@ module _ {A : Type 0} (of : List ℕ → A) (bytes : A → List ℕ) (w : ℕ) (
   held-sound has back [] a = tt
   held-sound has back (n ∷ ns) a = (back (n .held) (a .0), held-sound has back ns (a .1))
 
-  pub puts-room : (s : List ℕ) (st : ℕ) (ns : List (Named A)) → Kept st (st + w * 255) s (putHelds bytes w s st ns)
-  unfolding putHelds
-  puts-room s st [] = kept-same _ _ s
-  puts-room s st (n ∷ ns) = kept-trans (put-room s st (n .at) (n .held)) (puts-room (putHeld bytes w s st (n .at) (n .held)) st ns)
+module _ {A : Type 0} (replaces : A → A → Bool) (absent : A) (of : List ℕ → A) (bytes : A → List ℕ) (w : ℕ) (long : (h : A) → length (bytes h) ≡ w) where
+  -- a slot above 255 is slot 0: neither is kept
+  pub replace-named : (s : List ℕ) (st x : ℕ) (h : A) → replaceHeld replaces of bytes w s st (pick (ltb x 256) x 0) h ≡ replaceHeld replaces of bytes w s st x h
+  unfolding replaceHeld
+  replace-named s st x h =
+      dite (decLt x 256)
+      (λ q. let e : pick {A = ℕ} (ltb x 256) x 0 ≡ x = rw (lt-ltb x 256 q) in ap (λ (i : ℕ). replaceHeld replaces of bytes w s st i h) e)
+      (λ q.
+      let e : pick {A = ℕ} (ltb x 256) x 0 ≡ 0 = rw (le-ltb x 256 (omega arith)) in
+      ap (λ (i : ℕ). replaceHeld replaces of bytes w s st i h) e
+      ∙ rw (put-none of bytes w long s st 0 h refl, put-far of bytes w long s st x h (omega arith))
+      (flat (hasRoom w s st 0 && replaces (heldAt of w s st 0) h) s ∙ sym (flat (hasRoom w s st x && replaces (heldAt of w s st x) h) s)))
 
-  pub puts-view : (s : List ℕ) (st : ℕ) (ns : List (Named A)) → st + w * 255 ≤ length s → Sound ns → heldsAt of w (putHelds bytes w s st ns) st ≡ putAll (heldsAt of w s st) ns
-  unfolding putHelds putAll
-  puts-view s st [] fits so = refl
-  puts-view s st (n ∷ ns) fits so =
-      let t = putHeld bytes w s st (n .at) (n .held) in
-      puts-view t st ns (rw (put-room s st (n .at) (n .held) .long) fits) (so .1)
-      ∙ rw (put-view s st (n .at) (n .held) fits, so .0)
+  -- stored at its target it is put where it replaces what is held
+  pub target-replaced : (s : List ℕ) (st i : ℕ) (h : A) → i < 256 → storeAt s (targetOf replaces of w s st i h) (bytes h) ≡ replaceHeld replaces of bytes w s st i h
+  unfolding replaceHeld targetOf
+  target-replaced s st i h q =
+      dite (ℕ-discrete i 0)
+      (λ e. rw (eq-eqb i 0 e, put-none of bytes w long s st i h e) (store-past s (length s) (bytes h) (omega arith) ∙ sym (flat (hasRoom w s st i && replaces (heldAt of w s st i) h) s)))
+      (λ n. rw (ne-eqb i 0 n, put-slot of bytes w long s st i h (omega arith) q) (go (hasRoom w s st i && replaces (heldAt of w s st i) h)))
+    where
+      go : (b : Bool) → storeAt s (pick b (offset w st i) (length s)) (bytes h) ≡ pick b (storeAt s (offset w st i) (bytes h)) s
+      go true = refl
+      go false = store-past s (length s) (bytes h) (omega arith)
+
+  pub replace-room : (s : List ℕ) (st i : ℕ) (h : A) → Kept st (st + w * 255) s (replaceHeld replaces of bytes w s st i h)
+  unfolding replaceHeld
+  replace-room s st i h = go (hasRoom w s st i && replaces (heldAt of w s st i) h)
+    where
+      go : (b : Bool) → Kept st (st + w * 255) s (pick b (putHeld bytes w s st i h) s)
+      go true = put-room of bytes w long s st i h
+      go false = kept-same _ _ s
+
+  pub replaces-room : (s : List ℕ) (st : ℕ) (ns : List (Named A)) → Kept st (st + w * 255) s (replaceHelds replaces of bytes w s st ns)
+  unfolding replaceHelds
+  replaces-room s st [] = kept-same _ _ s
+  replaces-room s st (n ∷ ns) = kept-trans (replace-room s st (n .at) (n .held)) (replaces-room (replaceHeld replaces of bytes w s st (n .at) (n .held)) st ns)
+
+  -- THE LAW: a record put into the bytes where it replaces what they hold is one put so into the list that they say
+  replace-view : (s : List ℕ) (st i : ℕ) (h : A) → st + w * 255 ≤ length s → of (bytes h) ≡ h → heldsAt of w (replaceHeld replaces of bytes w s st i h) st ≡ replace replaces absent (heldsAt of w s st) i h
+  unfolding replaceHeld replace
+  replace-view s st i h fits so =
+      dite (ℕ-discrete i 0)
+      (λ e.
+      rw (put-none of bytes w long s st i h e, flat (hasRoom w s st i && replaces (heldAt of w s st i) h) s, eq-eqb i 0 e)
+      (sym (flat (replaces (getD (heldsAt of w s st) (i - 1) absent) h) (heldsAt of w s st))))
+      (λ n.
+      dite (decLt i 256)
+      (λ q.
+      let near : offset w st i + w ≤ length s = omega (arith, within w i q (omega arith)) in
+      let one : i - 1 + 1 ≡ i = omega arith in
+      let here : getD (heldsAt of w s st) (i - 1) absent ≡ heldAt of w s st i = getD-helds of w s st (i - 1) absent (omega arith) ∙ ap (heldAt of w s st) one in
+      rw (le-ltb (length s) (offset w st i + w) near, here) (go (replaces (heldAt of w s st i) h) (put-view of bytes w long s st i h fits ∙ rw so)))
+      (λ q.
+      rw (put-far of bytes w long s st i h (omega arith), flat (hasRoom w s st i && replaces (heldAt of w s st i) h) s, ne-eqb i 0 n, set-out (heldsAt of w s st) (i - 1) h (omega (arith, length-helds of w s st)))
+      (sym (flat (replaces (getD (heldsAt of w s st) (i - 1) absent) h) (heldsAt of w s st)))))
+    where
+      go : (b : Bool) → heldsAt of w (putHeld bytes w s st i h) st ≡ put (heldsAt of w s st) i h → heldsAt of w (pick b (putHeld bytes w s st i h) s) st ≡ pick b (put (heldsAt of w s st) i h) (heldsAt of w s st)
+      go true e = e
+      go false e = refl
+
+  pub replaces-view : (s : List ℕ) (st : ℕ) (ns : List (Named A)) → st + w * 255 ≤ length s → Sound of bytes w long ns → heldsAt of w (replaceHelds replaces of bytes w s st ns) st ≡ replaceAll replaces absent (heldsAt of w s st) ns
+  unfolding replaceHelds replaceAll
+  replaces-view s st [] fits so = refl
+  replaces-view s st (n ∷ ns) fits so =
+      let t = replaceHeld replaces of bytes w s st (n .at) (n .held) in
+      replaces-view t st ns (rw (replace-room s st (n .at) (n .held) .long) fits) (so .1)
+      ∙ rw (replace-view s st (n .at) (n .held) fits (so .0))
 
 -- a record, and the list, is as it was where its bytes are
 module _ {A : Type 0} (of : List ℕ → A) (w st lo hi : ℕ) (s t : List ℕ) (k : Kept lo hi s t) (o : (st + w * 255 ≤ lo) ⊎ (hi ≤ st)) where
@@ -137,11 +195,3 @@ module _ {A : Type 0} (of : List ℕ → A) (w st lo hi : ℕ) (s t : List ℕ) 
   pub helds-kept : heldsAt of w t st ≡ heldsAt of w s st
   unfolding heldsAt
   helds-kept = table-ext _ _ 255 (λ i l. held-kept (i + 1) (omega arith) (omega arith))
-
-pub getD-helds : {A : Type 0} (of : List ℕ → A) (w : ℕ) (s : List ℕ) (st i : ℕ) (d : A) → i < 255 → getD (heldsAt of w s st) i d ≡ heldAt of w s st (i + 1)
-unfolding heldsAt
-getD-helds of w s st i d l = getD-table _ 255 i d l
-
-pub length-helds : {A : Type 0} (of : List ℕ → A) (w : ℕ) (s : List ℕ) (st : ℕ) → length (heldsAt of w s st) ≡ 255
-unfolding heldsAt
-length-helds of w s st = length-table _ 255

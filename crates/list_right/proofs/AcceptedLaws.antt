@@ -11,9 +11,9 @@ use Rattle.bits.specs.Pick.{pick}
 use Rattle.contents.specs.declared.parts.Contents.{Contents}
 use Rattle.judge.specs.Judge.{refusalOf}
 use Rattle.frame.specs.Frame.{contentsOf, foreignTo, shellRefusal, refusalWith}
-use Rattle.lookback.specs.Store.{naming, getOr, standingOr, since}
-use Rattle.held_clocks.specs.Clocks.{noClock, clocksKept}
-use Rattle.held_orbits.specs.Orbits.{noOrbit}
+use Rattle.lookback.specs.Store.{naming, getOr, replacing, standingOr, since}
+use Rattle.held_clocks.specs.Clocks.{noClock, clocksKept, clockReplaces}
+use Rattle.held_orbits.specs.Orbits.{noOrbit, orbitReplaces}
 use Rattle.held_clocks.specs.declared.HeldClock.{HeldClock}
 use Rattle.held_orbits.specs.declared.HeldOrbit.{HeldOrbit}
 use Rattle.held_mask.specs.Mask.{HeldMask, noHeldMask, sameMask}
@@ -34,12 +34,13 @@ maskOver (c ∷ cs) = getOr (maskOf c) (maskOver cs)
 
 unfoldable pub orbitOver : List Contents → ℕ → HeldOrbit
 orbitOver [] s = noOrbit
-orbitOver (c ∷ cs) s = getOr (naming s (orbitsOf (c .kind) (c .orbit))) (orbitOver cs s)
+orbitOver (c ∷ cs) s = getOr (replacing orbitReplaces (orbitOver cs s) (naming s (orbitsOf (c .kind) (c .orbit)))) (orbitOver cs s)
 
 unfoldable pub clockOver : List HeldMask → List Contents → ℕ → HeldClock
 clockOver ms [] s = noClock
 clockOver ms (c ∷ cs) s =
-    standingOr clocksKept sameMask (naming s (clocksOf (maskOver cs) (c .kind) (c .clock))) (maskOver cs) ms (clockOver (since (maskOf c) ms) cs s)
+    standingOr clocksKept sameMask (replacing clockReplaces (clockOver [] cs s) (naming s (clocksOf (maskOver cs) (c .kind) (c .clock)))) (maskOver cs) ms
+    (clockOver (since (maskOf c) ms) cs s)
 
 -- contents of which nothing is refused, alone or under the mask that those before them leave
 abbrev pub Sound : List Contents → Type 0
@@ -87,7 +88,14 @@ module _ (prn : ℕ) where
   unfolding clockBack clockOver clockBy maskBy
   clock-over ms [] [] s G S = refl
   clock-over ms (f ∷ h) (c ∷ cs) s G S =
-      rw (accepted-over f h c cs G S, read-good prn f c (G .0) (G .1) (S .0), G .1, mask-over h cs (G .2) (S .2), clock-over (since (maskOf c) ms) h cs s (G .2) (S .2))
+      rw (
+        accepted-over f h c cs G S,
+        read-good prn f c (G .0) (G .1) (S .0),
+        G .1,
+        mask-over h cs (G .2) (S .2),
+        clock-over [] h cs s (G .2) (S .2),
+        clock-over (since (maskOf c) ms) h cs s (G .2) (S .2),
+      )
 
   -- the list by looking back, by the contents
   unfoldable pub listOver : List Contents → List ℕ → List Row

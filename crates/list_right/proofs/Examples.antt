@@ -12,6 +12,9 @@ use Rattle.judge.specs.Judge.{clockSlots, orbitSlots, refusalOf}
 use Rattle.judge.proofs.Examples.{refused-6-3-5}
 use Rattle.lookback.specs.Store.{naming, allSame}
 use Rattle.lookback.specs.Walk.{rowsFrom}
+use Rattle.newest.specs.Newest.{isNewer, replaces}
+use Rattle.held_clocks.specs.Clocks.{clockReplaces}
+use Rattle.held_orbits.specs.Orbits.{orbitReplaces}
 use Rattle.held_mask.specs.Mask.{sameBits, sameMask}
 use Rattle.places.specs.Keeps.{byPlace, bySlot, maskOf, orbitsOf, clocksOf, placeRefusal, maskRefusal}
 use Rattle.row.specs.Row.{isAssigned, usable, agrees, qualifies, rowOf}
@@ -36,11 +39,11 @@ sound-other : Sound (other ∷ sent)
 sound-other = (judged .0, placed .0, sound-sent)
 
 whole-over : listOver 60 sent issues ≡ row19 ∷ []
-unfolding listOver maskOver orbitOver clockOver maskOf orbitsOf clocksOf byPlace bySlot naming allSame sameBits sameMask setCount nthFrom rowsFrom rowOf qualifies isAssigned agrees usable noMask noClocks noOrbits table
+unfolding listOver maskOver orbitOver clockOver maskOf orbitsOf clocksOf byPlace bySlot naming clockReplaces orbitReplaces replaces isNewer allSame sameBits sameMask setCount nthFrom rowsFrom rowOf qualifies isAssigned agrees usable noMask noClocks noOrbits table
 whole-over = refl
 
 gone-over : listOver 60 (other ∷ sent) issues ≡ []
-unfolding listOver maskOver orbitOver clockOver maskOf orbitsOf clocksOf byPlace bySlot naming allSame sameBits sameMask setCount nthFrom rowsFrom rowOf qualifies isAssigned agrees usable noMask noClocks noOrbits table
+unfolding listOver maskOver orbitOver clockOver maskOf orbitsOf clocksOf byPlace bySlot naming clockReplaces orbitReplaces replaces isNewer allSame sameBits sameMask setCount nthFrom rowsFrom rowOf qualifies isAssigned agrees usable noMask noClocks noOrbits table
 gone-over = refl
 
 again-over : maskRefusal (maskOver (other ∷ sent)) four ≡ 14

@@ -1,2 +1,3 @@
+pub mod ReplaceLaws
 pub mod StoreLaws
 pub mod WalkLaws

@@ -5,52 +5,10 @@ use mathlib.Core.List.{List, [], _∷_, _++_, map}
 use mathlib.Core.Bool.{Bool, true, false, false≢true}
 use mathlib.Core.Option.{Option, none, some}
 use native.Mathlib.Omega.{arith}
-use borrow.Author.Tests.{eqb-true, eqb-false}
-use lib.Dec.{eqb}
-use lib.ListN.{length, getD, set, length-set, length-map, List·getD-map}
-use lib.Seq.{getD-set-same, getD-set-other}
+use lib.ListN.{length, getD, length-map, List·getD-map}
 use Rattle.bits.specs.Pick.{pick}
-use Rattle.lookback.specs.Store.{Named, put, putAll, orElse, getOr, naming, allSame, Kind, standing, standingOr, since, unplaced, kept}
-
--- the test does not matter where both are the same
-pub flat : {A : Type 0} (b : Bool) (x : A) → pick b x x ≡ x
-flat true x = refl
-flat false x = refl
-
--- ---- records put, at any slot
-pub length-put : {A : Type 0} (xs : List A) (a : ℕ) (v : A) → length (put xs a v) ≡ length xs
-length-put xs a v = go (eqb a 0)
-  where
-    go : (b : Bool) → length (pick b xs (set xs (a - 1) v)) ≡ length xs
-    go true = refl
-    go false = length-set xs (a - 1) v
-
-pub put-at : {A : Type 0} (xs : List A) (a s : ℕ) (v d : A) → 1 ≤ s → s ≤ length xs → getD (put xs a v) (s - 1) d ≡ pick (eqb a s) v (getD xs (s - 1) d)
-put-at xs a s v d p q = go (eqb a 0) refl (eqb a s) refl
-  where
-    go : (z : Bool) → eqb a 0 ≡ z → (b : Bool) → eqb a s ≡ b → getD (pick z xs (set xs (a - 1) v)) (s - 1) d ≡ pick b v (getD xs (s - 1) d)
-    go true ez true eb = absurd (let e = eqb-true a 0 ez in let f = eqb-true a s eb in omega arith)
-    go true ez false eb = refl
-    go false ez true eb = let f : s ≡ a = sym (eqb-true a s eb) in rw f (getD-set-same xs (a - 1) v d (omega arith))
-    go false ez false eb = getD-set-other xs (a - 1) (s - 1) v d (λ e. eqb-false a s eb (let n : a ≡ 0 → ⊥ = eqb-false a 0 ez in omega arith))
-
-pub length-putAll : {A : Type 0} (xs : List A) (ns : List (Named A)) → length (putAll xs ns) ≡ length xs
-unfolding putAll
-length-putAll xs [] = refl
-length-putAll xs (n ∷ ns) = length-putAll (put xs (n .at) (n .held)) ns ∙ length-put xs (n .at) (n .held)
-
-pub putAll-at : {A : Type 0} (xs : List A) (ns : List (Named A)) (s : ℕ) (d : A) → 1 ≤ s → s ≤ length xs → getD (putAll xs ns) (s - 1) d ≡ getOr (naming s ns) (getD xs (s - 1) d)
-unfolding putAll naming
-putAll-at xs [] s d p q = refl
-putAll-at xs (n ∷ ns) s d p q =
-    putAll-at (put xs (n .at) (n .held)) ns s d p (rw (length-put xs (n .at) (n .held)) q) ∙
-    go (naming s ns) (eqb (n .at) s) (put-at xs (n .at) s (n .held) d p q)
-  where
-    go : (o : Option _) (b : Bool) → getD (put xs (n .at) (n .held)) (s - 1) d ≡ pick b (n .held) (getD xs (s - 1) d) →
-        getOr o (getD (put xs (n .at) (n .held)) (s - 1) d) ≡ getOr (orElse o (pick b (some (n .held)) none)) (getD xs (s - 1) d)
-    go (some a) b e = refl
-    go none true e = e
-    go none false e = e
+use Rattle.lookback.specs.Store.{Named, replaceAll, getOr, naming, replacing, allSame, Kind, standing, standingOr, since, unplaced, kept}
+use Rattle.lookback.proofs.ReplaceLaws.{flat, times, replaceAll-at}
 
 -- ---- masks that came since
 -- the newest of some masks, oldest first, or d
@@ -128,33 +86,30 @@ module _ {M A : Type 0} (k : Kind A) (same : M → M → Bool) where
       go false = length-map xs (unplaced k)
   length-kept none old xs = refl
 
-  pub length-store : (x : Option M) (old : M) (xs : List A) (ns : List (Named A)) → length (putAll (kept k same x old xs) ns) ≡ length xs
-  length-store x old xs ns = length-putAll (kept k same x old xs) ns ∙ length-kept x old xs
-
 -- ---- the law of every store
--- back ms h s walks back over the history h, with the masks ms accepted since: it stops at the first frame that has a record for slot s,
--- which came under the mask in force before it; a frame that brings a mask has none
-pub record LooksBack {F M A : Type 0} (k : Kind A) (same : M → M → Bool) (maskOf : F → Option M) (maskIn : List F → M)
-    (at : List F → F → ℕ → Option A) (back : List M → List F → ℕ → A) : Type 0 where
+-- back ms h s walks back over the history h, with the masks ms accepted since: it stops at the first frame that has a record for slot s that
+-- replaces the one in force before it, and which came under the mask in force before it; a frame that brings a mask has none
+pub record LooksBack {F M A : Type 0} (k : Kind A) (same : M → M → Bool) (replaces : A → A → Bool) (maskOf : F → Option M) (maskIn : List F → M)
+    (by : List F → F → ℕ → Option A) (back : List M → List F → ℕ → A) : Type 0 where
   pub same-eq : (a b : M) → same a b ≡ true → a ≡ b
   pub mask-next : (c : F) (h : List F) → maskIn (c ∷ h) ≡ getOr (maskOf c) (maskIn h)
-  pub quiet : (h : List F) (c : F) (m : M) (s : ℕ) → maskOf c ≡ some m → at h c s ≡ none
+  pub quiet : (h : List F) (c : F) (m : M) (s : ℕ) → maskOf c ≡ some m → by h c s ≡ none
   pub start : (ms : List M) (s : ℕ) → back ms [] s ≡ k .absent
-  pub next : (ms : List M) (c : F) (h : List F) (s : ℕ) → back ms (c ∷ h) s ≡ standingOr k same (at h c s) (maskIn h) ms (back (since (maskOf c) ms) h s)
+  pub next : (ms : List M) (c : F) (h : List F) (s : ℕ) → back ms (c ∷ h) s ≡ standingOr k same (replacing replaces (back [] h s) (by h c s)) (maskIn h) ms (back (since (maskOf c) ms) h s)
 
-module _ {F M A : Type 0} {k : Kind A} {same : M → M → Bool} {maskOf : F → Option M} {maskIn : List F → M}
-    {at : List F → F → ℕ → Option A} {back : List M → List F → ℕ → A} (L : LooksBack k same maskOf maskIn at back) where
+module _ {F M A : Type 0} {k : Kind A} {same : M → M → Bool} {replaces : A → A → Bool} {maskOf : F → Option M} {maskIn : List F → M}
+    {by : List F → F → ℕ → Option A} {back : List M → List F → ℕ → A} (L : LooksBack k same replaces maskOf maskIn by back) where
   -- comparing a mask with the one before it is comparing it with the mask that a record came under
   back-snoc : (m : M) (h : List F) (ms : List M) (s : ℕ) → back (ms ++ (m ∷ [])) h s ≡ after k (same (lastOr ms (maskIn h)) m) (back ms h s)
   back-snoc m [] ms s = rw (L .start (ms ++ (m ∷ [])) s, L .start ms s) (sym (after-absent k (same (lastOr ms (maskIn [])) m)))
   back-snoc m (c ∷ h) ms s =
-      rw (L .next (ms ++ (m ∷ [])) c h s, L .next ms c h s, L .mask-next c h) (go (maskOf c) refl (at h c s) refl (λ ns. back-snoc m h ns s))
+      rw (L .next (ms ++ (m ∷ [])) c h s, L .next ms c h s, L .mask-next c h) (go (maskOf c) refl (replacing replaces (back [] h s) (by h c s)) refl (λ ns. back-snoc m h ns s))
     where
-      go : (x : Option M) → maskOf c ≡ x → (o : Option A) → at h c s ≡ o →
+      go : (x : Option M) → maskOf c ≡ x → (o : Option A) → replacing replaces (back [] h s) (by h c s) ≡ o →
           ((ns : List M) → back (ns ++ (m ∷ [])) h s ≡ after k (same (lastOr ns (maskIn h)) m) (back ns h s)) →
           standingOr k same o (maskIn h) (ms ++ (m ∷ [])) (back (since x (ms ++ (m ∷ []))) h s) ≡
           after k (same (lastOr ms (getOr x (maskIn h))) m) (standingOr k same o (maskIn h) ms (back (since x ms) h s))
-      go (some n) e (some r) f ih = absurd (let z : _≡_ {A = ℕ} 0 1 = cc (L .quiet h c n s e, f) in omega arith)
+      go (some n) e (some r) f ih = absurd (let z : _≡_ {A = ℕ} 0 1 = cc (sym f ∙ ap (replacing replaces (back [] h s)) (L .quiet h c n s e)) in omega arith)
       go (some n) e none f ih = ih (n ∷ ms)
       go none e (some r) f ih = standing-snoc k same (L .same-eq) (maskIn h) m ms r
       go none e none f ih = ih ms
@@ -164,14 +119,20 @@ module _ {F M A : Type 0} {k : Kind A} {same : M → M → Bool} {maskOf : F →
   kept-since h (some m) xs s e = kept-at k same m (maskIn h) xs (s - 1) ∙ rw e (sym (back-snoc m h [] s))
   kept-since h none xs s e = e
 
-  -- a store that held what is in force after h, kept by the mask of c and put the names ns, holds what is in force after c
-  pub store-step : (c : F) (h : List F) (xs : List A) (ns : List (Named A)) (s : ℕ) → 1 ≤ s → s ≤ length xs →
-      getD xs (s - 1) (k .absent) ≡ back [] h s → naming s ns ≡ at h c s →
-      getD (putAll (kept k same (maskOf c) (maskIn h) xs) ns) (s - 1) (k .absent) ≡ back [] (c ∷ h) s
-  store-step c h xs ns s p q e f =
-      putAll-at (kept k same (maskOf c) (maskIn h) xs) ns s (k .absent) p (rw (length-kept k same (maskOf c) (maskIn h) xs) q) ∙
-      rw (kept-since h (maskOf c) xs s e, f, L .next [] c h s) (sym (standing-nil k same (maskIn h) (at h c s) (back (since (maskOf c) []) h s)))
+  -- a record is held against what was in force before its frame: a frame that brings a mask has none
+  held-against : (c : F) (h : List F) (x : Option M) (s : ℕ) → maskOf c ≡ x → replacing replaces (back (since x []) h s) (by h c s) ≡ replacing replaces (back [] h s) (by h c s)
+  held-against c h (some m) s e = rw (L .quiet h c m s e)
+  held-against c h none s e = refl
+
+  -- a store that held what is in force after h, kept by the mask of c and given the records ns, holds what is in force after c
+  pub store-step : (c : F) (h : List F) (xs : List A) (ns : List (Named A)) (s : ℕ) → 1 ≤ s → s ≤ length xs → times s ns ≤ 1 →
+      getD xs (s - 1) (k .absent) ≡ back [] h s → naming s ns ≡ by h c s →
+      getD (replaceAll replaces (k .absent) (kept k same (maskOf c) (maskIn h) xs) ns) (s - 1) (k .absent) ≡ back [] (c ∷ h) s
+  store-step c h xs ns s p q o e f =
+      replaceAll-at replaces (k .absent) (kept k same (maskOf c) (maskIn h) xs) ns s p (rw (length-kept k same (maskOf c) (maskIn h) xs) q) o ∙
+      rw (kept-since h (maskOf c) xs s e, f, held-against c h (maskOf c) s refl, L .next [] c h s)
+      (sym (standing-nil k same (maskIn h) (replacing replaces (back [] h s) (by h c s)) (back (since (maskOf c) []) h s)))
 
   -- a frame that does nothing
-  pub store-idle : (c : F) (h : List F) (s : ℕ) → maskOf c ≡ none → at h c s ≡ none → back [] (c ∷ h) s ≡ back [] h s
+  pub store-idle : (c : F) (h : List F) (s : ℕ) → maskOf c ≡ none → by h c s ≡ none → back [] (c ∷ h) s ≡ back [] h s
   store-idle c h s e f = L .next [] c h s ∙ rw (e, f)

@@ -4,7 +4,7 @@ use mathlib.Core.List.{List, [], _∷_, map}
 use mathlib.Core.Bool.{Bool, true, false}
 use mathlib.Core.Option.{Option, none, some}
 use lib.Dec.{eqb}
-use lib.ListN.{set}
+use lib.ListN.{getD, set}
 use Rattle.bits.specs.Pick.{pick}
 
 -- a record with the slot that it names; 0 is none
@@ -16,10 +16,14 @@ pub record Named (A : Type 0) : Type 0 where
 abbrev pub put : {A : Type 0} → List A → ℕ → A → List A
 put xs s r = pick (eqb s 0) xs (set xs (s - 1) r)
 
--- 01, What the ledger keeps: the latest to arrive counts, so named records are put one after the other
-unfoldable pub putAll : {A : Type 0} → List A → List (Named A) → List A
-putAll xs [] = xs
-putAll xs (n ∷ ns) = putAll (put xs (n .at) (n .held)) ns
+-- 02, CR 3: r is kept for slot s where it replaces the record that is held there now, absent if there is none
+unfoldable pub replace : {A : Type 0} → (A → A → Bool) → A → List A → ℕ → A → List A
+replace replaces absent xs s r = pick (replaces (getD xs (s - 1) absent) r) (put xs s r) xs
+
+-- named records, one after the other
+unfoldable pub replaceAll : {A : Type 0} → (A → A → Bool) → A → List A → List (Named A) → List A
+replaceAll replaces absent xs [] = xs
+replaceAll replaces absent xs (n ∷ ns) = replaceAll replaces absent (replace replaces absent xs (n .at) (n .held)) ns
 
 -- the first of two that is there
 abbrev pub orElse : {A : Type 0} → Option A → Option A → Option A
@@ -35,6 +39,11 @@ getOr none d = d
 unfoldable pub naming : {A : Type 0} → ℕ → List (Named A) → Option A
 naming s [] = none
 naming s (n ∷ ns) = orElse (naming s ns) (pick (eqb (n .at) s) (some (n .held)) none)
+
+-- 02, CR 3: a record, where there is one and it replaces the held one d
+abbrev pub replacing : {A : Type 0} → (A → A → Bool) → A → Option A → Option A
+replacing replaces d (some r) = pick (replaces d r) (some r) none
+replacing replaces d none = none
 
 -- every one of the masks ms is the mask p
 unfoldable pub allSame : {M : Type 0} → (M → M → Bool) → M → List M → Bool

@@ -1,8 +1,8 @@
 -- What one frame's records name, a turn of a walk at a time, and when a clock part by place is refused.
 use mathlib.Core.Path.{_≡_, refl, sym, ap, _∙_}
 use mathlib.Core.Logic.{_≢_, _⊎_, inl, inr, dite}
-use Prim.Native.Nat.{ℕ, _+_, _-_, _*_, _≤_, _<_}
-use mathlib.Core.Bool.{Bool, true, false, _&&_, _||_}
+use Prim.Native.Nat.{ℕ, _+_, _≤_, _<_}
+use mathlib.Core.Bool.{Bool, true, false, _&&_}
 use mathlib.Core.List.{List, [], _∷_, map}
 use mathlib.Core.Option.{none, some}
 use lib.Dec.{eqb, ltb}
@@ -20,9 +20,8 @@ use Rattle.contents.specs.declared.parts.ClockPart.{ClockPart}
 use Rattle.contents.specs.declared.parts.OrbitPart.{OrbitPart}
 use Rattle.contents.specs.declared.parts.Contents.{Contents}
 use Rattle.layout.proofs.LayoutLaws.{pick-all}
-use Rattle.frame.proofs.FrameLaws.{skipped}
-use Rattle.lent.specs.Held.{putHelds, putHeld}
-use Rattle.lent.proofs.HeldLaws.{put-named, AllHeld}
+use Rattle.lent.specs.Held.{replaceHelds, replaceHeld}
+use Rattle.lent.proofs.HeldLaws.{replace-named, AllHeld}
 use Rattle.held_clocks.specs.declared.HeldClock.{HeldClock}
 use Rattle.held_clocks.proofs.ClockLaws.{ClocksHeld}
 use Rattle.held_orbits.specs.declared.HeldOrbit.{HeldOrbit}
@@ -35,23 +34,24 @@ pub length-mapped : (X Y : Type 0) (f : X → Y) (l : List X) (n : ℕ) → leng
 length-mapped X Y f l n e = sym (length-map l f) ∙ e
 
 -- ---- a walk over records, a turn and its end
-module _ {R A : Type 0} (bytes : A → List ℕ) (w st : ℕ) (f : R → A) (rs : List R) (j : ℕ) (d : R) (s : List ℕ) where
+module _ {R A : Type 0} (replaces : A → A → Bool) (absent : A) (of : List ℕ → A) (bytes : A → List ℕ) (w : ℕ) (long : (h : A) → length (bytes h) ≡ w) (st : ℕ)
+    (f : R → A) (rs : List R) (j : ℕ) (d : R) (s : List ℕ) where
   pub slot-step : (slot : R → ℕ) → j < length rs →
-      putHelds bytes w s st (bySlot slot f (drop j rs)) ≡ putHelds bytes w (putHeld bytes w s st (slotNamed (slot (getD rs j d))) (f (getD rs j d))) st (bySlot slot f (drop (j + 1) rs))
-  unfolding putHelds bySlot
-  slot-step slot h = rw (drop-one rs j d h, put-named bytes w s st (slot (getD rs j d)) (f (getD rs j d)))
+      replaceHelds replaces of bytes w s st (bySlot slot f (drop j rs)) ≡ replaceHelds replaces of bytes w (replaceHeld replaces of bytes w s st (slotNamed (slot (getD rs j d))) (f (getD rs j d))) st (bySlot slot f (drop (j + 1) rs))
+  unfolding replaceHelds bySlot
+  slot-step slot h = rw (drop-one rs j d h, replace-named replaces absent of bytes w long s st (slot (getD rs j d)) (f (getD rs j d)))
 
-  pub slot-end : (slot : R → ℕ) → length rs ≤ j → putHelds bytes w s st (bySlot slot f (drop j rs)) ≡ s
-  unfolding putHelds bySlot
+  pub slot-end : (slot : R → ℕ) → length rs ≤ j → replaceHelds replaces of bytes w s st (bySlot slot f (drop j rs)) ≡ s
+  unfolding replaceHelds bySlot
   slot-end slot h = rw (drop-of-length-le rs h)
 
   pub place-step : (bits : List Bool) (n : ℕ) → j < length rs →
-      putHelds bytes w s st (byPlace f bits (drop j rs) n) ≡ putHelds bytes w (putHeld bytes w s st (nthSet bits n) (f (getD rs j d))) st (byPlace f bits (drop (j + 1) rs) (n + 1))
-  unfolding putHelds byPlace
+      replaceHelds replaces of bytes w s st (byPlace f bits (drop j rs) n) ≡ replaceHelds replaces of bytes w (replaceHeld replaces of bytes w s st (nthSet bits n) (f (getD rs j d))) st (byPlace f bits (drop (j + 1) rs) (n + 1))
+  unfolding replaceHelds byPlace
   place-step bits n h = rw (drop-one rs j d h)
 
-  pub place-end : (bits : List Bool) (n : ℕ) → length rs ≤ j → putHelds bytes w s st (byPlace f bits (drop j rs) n) ≡ s
-  unfolding putHelds byPlace
+  pub place-end : (bits : List Bool) (n : ℕ) → length rs ≤ j → replaceHelds replaces of bytes w s st (byPlace f bits (drop j rs) n) ≡ s
+  unfolding replaceHelds byPlace
   place-end bits n h = rw (drop-of-length-le rs h)
 
 -- the walk goes on below 23 and below the count, and stops at the first of the two
@@ -72,9 +72,9 @@ stop j n e = go (ltb j 23) (ltb j n) refl refl e
     go false b p q e = inl (ltb-false j 23 p)
 
 -- nothing is put where nothing is named
-pub put-no : {A : Type 0} (bytes : A → List ℕ) (w st : ℕ) (s : List ℕ) → putHelds bytes w s st [] ≡ s
-unfolding putHelds
-put-no bytes w st s = refl
+pub replace-no : {A : Type 0} (replaces : A → A → Bool) (of : List ℕ → A) (bytes : A → List ℕ) (w st : ℕ) (s : List ℕ) → replaceHelds replaces of bytes w s st [] ≡ s
+unfolding replaceHelds
+replace-no replaces of bytes w st s = refl
 
 -- ---- the names of a part, by the type
 module _ (m : HeldMask) (kind : ℕ) (p : ClockPart) where
@@ -129,9 +129,6 @@ module _ (c : Contents) where
     unfolding placeRefusal
     mask-free m = rw k
 
-number-some : (kind : ℕ) → 1 ≤ placeNumber kind
-number-some kind = pick-all (λ (n : ℕ). 1 ≤ n) (eqb kind 4) 15 19 (omega arith) (omega arith)
-
 -- ---- 14, 15 and 19, in the order in which they are looked for
 module _ (m : HeldMask) (kind : ℕ) (p : ClockPart) where
   pub place-free : needsMask kind p ≡ false → placeRefusal m kind p ≡ 0
@@ -171,26 +168,7 @@ module _ (m : HeldMask) (kind : ℕ) (p : ClockPart) where
       let second = pick-all (λ (n : ℕ). n ≢ 6) past (placeNumber kind) 0 number (omega arith) in
       pick-all (λ (n : ℕ). n ≢ 6) (needsMask kind p && otherMask m p) 14 (pick past (placeNumber kind) 0) (omega arith) second
 
-  -- where neither applies, the place that is looked at has a satellite
-  pub place-in : needsMask kind p ≡ true → placeRefusal m kind p ≡ 0 → placeToCheck kind p ≤ setCount (m .bits)
-  unfolding placeRefusal
-  place-in n e =
-      let past = needsMask kind p && ltb (setCount (m .bits)) (placeToCheck kind p) in
-      let r14 = skipped 14 (needsMask kind p && otherMask m p) (pick {A = ℕ} past (placeNumber kind) 0) (omega arith) e in
-      let r15 = skipped (placeNumber kind) past 0 (number-some kind) (r14 .1) in
-      let q : ltb (setCount (m .bits)) (placeToCheck kind p) ≡ false = rw n at (r15 .0) in
-      ltb-false _ _ q
-
--- ---- the first place is not beyond the one that is looked at
-pub first-checked : (kind : ℕ) (p : ClockPart) → needsMask kind p ≡ true → firstPlace kind p ≤ placeToCheck kind p
-first-checked kind p n = go (eqb kind 4) (eqb kind 6) (ltb 0 (p .count)) refl n
-  where
-    go : (a b c : Bool) → ltb 0 (p .count) ≡ c → a || (b && c) ≡ true → pick {A = ℕ} a (23 * p .start + 1) (p .start) ≤ pick {A = ℕ} a (23 * p .start + 1) (p .start + p .count - 1)
-    go true b c e h = omega arith
-    go false true true e h = omega (arith, ltb-true 0 (p .count) e)
-    go false true false e h = let z : _≡_ {A = ℕ} 0 1 = cc in omega arith
-    go false false c e h = let z : _≡_ {A = ℕ} 0 1 = cc in omega arith
-
+-- ---- a place that no satellite has
 pub count-le : (bs : List Bool) → setCount bs ≤ length bs
 unfolding setCount
 count-le [] = omega arith
@@ -217,9 +195,20 @@ as-same bits n long =
     (λ q. nth-none bits 1 (asPlace n) (inr (omega (arith, as-far n q, count-le bits))) ∙ sym (nth-none bits 1 n (inr (omega (arith, count-le bits)))))
     (λ q. ap (nthSet bits) (as-near n (omega arith)))
 
--- so it lies within a mask of 255 bits
-pub first-near : (m : HeldMask) (kind : ℕ) (p : ClockPart) → length (m .bits) ≡ 255 → needsMask kind p ≡ true → placeRefusal m kind p ≡ 0 → firstPlace kind p ≤ 255
-first-near m kind p long n e = omega (arith, first-checked kind p n, place-in m kind p n e, count-le (m .bits))
+-- so records from the one or the other on name the same slots
+pub place-same : {R A : Type 0} (f : R → A) (bits : List Bool) (rs : List R) (n : ℕ) → length bits ≡ 255 → byPlace f bits rs (asPlace n) ≡ byPlace f bits rs n
+unfolding byPlace
+place-same f bits rs n long =
+    dite (decLt 255 n)
+    (λ q. go rs (asPlace n) n (as-far n q) q)
+    (λ q. ap (byPlace f bits rs) (as-near n (omega arith)))
+  where
+    none : (k : ℕ) → 255 < k → nthSet bits k ≡ 0
+    none k l = nth-none bits 1 k (inr (omega (arith, count-le bits)))
+
+    go : (rs : List _) (a b : ℕ) → 255 < a → 255 < b → byPlace f bits rs a ≡ byPlace f bits rs b
+    go [] a b l m = refl
+    go (r ∷ rs) a b l m = rw (none a l, none b m, go rs (a + 1) (b + 1) (omega arith) (omega arith))
 
 -- ---- what is named is held
 module _ {R A : Type 0} (has : A → Bool) (f : R → A) (every : (r : R) → has (f r) ≡ true) where

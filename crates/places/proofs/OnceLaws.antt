@@ -25,14 +25,9 @@ use Rattle.contents.specs.declared.parts.ClockPart.{ClockPart}
 use Rattle.contents.specs.declared.parts.OrbitPart.{OrbitPart}
 use Rattle.frame.specs.Frame.{contentsOf, foreignTo, refusalWith}
 use Rattle.frame.proofs.FrameLaws.{neither, parts-zero, sound, clocks-long, orbits-long}
-use Rattle.lookback.specs.Store.{Named}
+use Rattle.lookback.proofs.ReplaceLaws.{times}
 use Rattle.held_mask.specs.Mask.{HeldMask}
 use Rattle.places.specs.Keeps.{heldOrbit, heldClock, bySlot, byPlace, hasOrbits, orbitsOf, needsMask, firstPlace, clocksOf, maskRefusal, refusalUnder}
-
--- how many of the records name the slot
-unfoldable pub times : {A : Type 0} → ℕ → List (Named A) → ℕ
-times s [] = 0
-times s (n ∷ ns) = times s ns + pick (eqb (n .at) s) 1 0
 
 -- ---- by slot: from 12
 module _ {R A : Type 0} (slot : R → ℕ) (f : R → A) where

@@ -3,7 +3,7 @@ use mathlib.Core.Path.{sym, _∙_}
 use Rattle.contents.proofs.PartLaws.{mask-absent}
 use Rattle.judge.proofs.JudgeLaws.{parts-refusal}
 use Rattle.frame.specs.Frame.{contentsOf}
-use Rattle.in_force.proofs.RefusalLaws.{way-judged, way-refused, way-placed, way-taken}
+use Rattle.in_force.proofs.RefusalLaws.{way-judged, way-refused, way-taken}
 use Rattle.ledger.proofs.take.take_parts.Statement.{statement}
 use Rattle.ledger.proofs.take.take_parts.Tie as tie
 
@@ -55,18 +55,7 @@ returns-2 c =
     way-refused s f (start .pre .0) _ judged (c .before .before .before .before .if1 .left) _ said (λ z. c .if2 .taken (c .before .number-of .ensures ∙ z))
 
 take-clocks-requires : tie.Need-take-clocks-requires
-take-clocks-requires c κs =
-    let at = c .before .before .before .before .before .before in
-    let kind = at .before .before .before .kind-of .ensures in
-    let clock = at .before .before .clocks-of .ensures in
-    let orbit = at .before .orbits-of .ensures in
-    let start = at .before .before .before .before .before .before in
-    let s = start .args .t .now in
-    let f = start .args .frame .now in
-    let judged = (rw (kind, clock, orbit) at (at .refusal-of-parts .ensures)) ∙ parts-refusal (contentsOf f) (mask-absent f 28 (start .pre .1)) in
-    let placed = c .before .before .before .place-verdict in
-    let said = rw (kind, clock) at (placed .ensures) in
-    rw (kind, clock) (way-placed s f (start .pre .0) _ judged (c .before .before .before .before .before .if1 .left) _ said (sym (c .before .before .number-of .ensures) ∙ c .before .if2 .left))
+take-clocks-requires c κs = search needs
 
 take-orbits-requires : tie.Need-take-orbits-requires
 take-orbits-requires c κs = search needs

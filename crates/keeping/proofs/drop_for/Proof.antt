@@ -1,8 +1,8 @@
 use borrow.Author.Needs.{needs}
 use borrow.Author.Tests.{not-true, not-false}
 use mathlib.Core.Path.{sym, _∙_}
-use Rattle.ledger.proofs.take.drop_for.Statement.{statement}
-use Rattle.ledger.proofs.take.drop_for.Tie as tie
+use Rattle.keeping.proofs.drop_for.Statement.{statement}
+use Rattle.keeping.proofs.drop_for.Tie as tie
 
 same-mask-requires : tie.Need-same-mask-requires
 same-mask-requires c κs = search needs

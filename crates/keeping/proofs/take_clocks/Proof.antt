@@ -1,11 +1,10 @@
 use borrow.Author.Needs.{needs}
 use mathlib.Core.Path.{sym, _∙_}
-use Rattle.held_clocks.specs.Clocks.{heldClockBytes}
+use Rattle.held_clocks.specs.Clocks.{clockReplaces, heldClockOf, heldClockBytes}
 use Rattle.held_mask.specs.Mask.{maskAt}
-use Rattle.mask_bits.proofs.BitLaws.{length-bits}
-use Rattle.places.proofs.KeepLaws.{first-near, clocks-none, put-no}
-use Rattle.ledger.proofs.take.take_clocks.Statement.{statement}
-use Rattle.ledger.proofs.take.take_clocks.Tie as tie
+use Rattle.places.proofs.KeepLaws.{clocks-none, replace-no}
+use Rattle.keeping.proofs.take_clocks.Statement.{statement}
+use Rattle.keeping.proofs.take_clocks.Tie as tie
 
 clocks-by-slot-requires : tie.Need-clocks-by-slot-requires
 clocks-by-slot-requires c κs = search needs
@@ -20,11 +19,7 @@ needs-mask-requires : tie.Need-needs-mask-requires
 needs-mask-requires c κs = search needs
 
 clocks-by-place-requires : tie.Need-clocks-by-place-requires
-clocks-by-place-requires c κs =
-    let c0 = c .before .before .before .before .before in
-    let a = c0 .args in
-    let needed = sym (c .before .before .needs-mask .ensures) ∙ c .before .if2 .taken in
-    (needed, first-near (maskAt (a .t .now)) (a .kind) (a .p) (length-bits (a .t .now)) needed (c0 .pre))
+clocks-by-place-requires c κs = sym (c .before .before .needs-mask .ensures) ∙ c .before .if2 .taken
 
 same-length-2 : tie.Need-same-length-2
 same-length-2 c = search needs
@@ -36,7 +31,7 @@ returns-3 : tie.Need-returns-3
 returns-3 c =
     let a = c .before .before .before .before .args in
     rw (clocks-none (maskAt (a .t .now)) (a .kind) (a .p) (c .before .before .if1 .left) (sym (c .before .needs-mask .ensures) ∙ c .if2 .left))
-    (sym (put-no heldClockBytes 12 36 (a .t .now)))
+    (sym (replace-no clockReplaces heldClockOf heldClockBytes 12 36 (a .t .now)))
 
 pub take-clocks-spec : {M : Type 1} → statement M
 take-clocks-spec =

@@ -9,17 +9,18 @@ use mathlib.Core.Logic.{⊎-elim}
 use lib.ListN.{length, take, drop, length-take}
 use lib.Seq.{getD-take}
 use Rattle.records.specs.Clock.{blankClock}
-use Rattle.held_clocks.specs.Clocks.{heldClockBytes, putClocks}
+use Rattle.held_clocks.specs.Clocks.{clockReplaces, noClock, heldClockOf, heldClockBytes, replaceClocks}
+use Rattle.held_clocks.proofs.ClockLaws.{clock-long}
 use Rattle.slots.specs.Slots.{nthFrom, nthSet}
 use Rattle.mask_bits.proofs.PlaceLaws.{walk-on}
 use Rattle.mask_bits.proofs.BitLaws.{length-bits}
 use Rattle.mask_bits.specs.Bits.{bitsAt}
 use Rattle.held_mask.specs.Mask.{maskAt}
-use Rattle.places.specs.Keeps.{heldClock, byPlace}
-use Rattle.places.proofs.KeepLaws.{length-mapped, turn, stop, as-near, place-step, place-end, clocks-placed, placed-not-7}
+use Rattle.places.specs.Keeps.{heldClock, byPlace, firstPlace}
+use Rattle.places.proofs.KeepLaws.{length-mapped, turn, stop, place-same, place-step, place-end, clocks-placed, placed-not-7}
 use Rattle.in_force.proofs.ViewLaws.{clock-bits}
-use Rattle.ledger.proofs.take.clocks_by_place.Statement.{statement}
-use Rattle.ledger.proofs.take.clocks_by_place.Tie as tie
+use Rattle.keeping.proofs.clocks_by_place.Statement.{statement}
+use Rattle.keeping.proofs.clocks_by_place.Tie as tie
 
 abbrev Inv-loop : tie.InvT-loop
 Inv-loop t₀ kind p ks count from₀ n₀ j₀ t from n j =
@@ -27,7 +28,7 @@ Inv-loop t₀ kind p ks count from₀ n₀ j₀ t from n j =
     × (length (p .clocks) ≡ 23)
     × (length t ≡ length t₀)
     × (bitsAt t ≡ bitsAt t₀)
-    × (putClocks t (byPlace (heldClock true (p .epoch) (p .ssr)) (bitsAt t₀) (drop j (take (p .count) (p .clocks))) (n₀ .0 + j)) ≡ putClocks t₀ (byPlace (heldClock true (p .epoch) (p .ssr)) (bitsAt t₀) (take (p .count) (p .clocks)) (n₀ .0)))
+    × (replaceClocks t (byPlace (heldClock true (p .epoch) (p .ssr)) (bitsAt t₀) (drop j (take (p .count) (p .clocks))) (n₀ .0 + j)) ≡ replaceClocks t₀ (byPlace (heldClock true (p .epoch) (p .ssr)) (bitsAt t₀) (take (p .count) (p .clocks)) (n₀ .0)))
     × ((k : ℕ) → nthFrom (drop (from .0) (bitsAt t₀)) (from .0 + 1) (n .0 + k) ≡ nthSet (bitsAt t₀) (n₀ .0 + j + k))
 
 abbrev μ-loop : tie.MeasureT-loop
@@ -44,7 +45,7 @@ loop-holds c =
     let a = c .before .before .before .before .args in
     let p = a .p in
     let first = c .first-place .result .0 in
-    (omega arith, search (needs, length-mapped), refl, refl, ap (λ (n : ℕ). putClocks (a .t .now) (byPlace (heldClock true (p .epoch) (p .ssr)) (bitsAt (a .t .now)) (take (p .count) (p .clocks)) n)) (add-zero first), λ k. ap (λ (n : ℕ). nthSet (bitsAt (a .t .now)) (n + k)) (sym (add-zero first)))
+    (omega arith, search (needs, length-mapped), refl, refl, ap (λ (n : ℕ). replaceClocks (a .t .now) (byPlace (heldClock true (p .epoch) (p .ssr)) (bitsAt (a .t .now)) (take (p .count) (p .clocks)) n)) (add-zero first), λ k. ap (λ (n : ℕ). nthSet (bitsAt (a .t .now)) (n + k)) (sym (add-zero first)))
 
 nth-after-requires : tie.Need-nth-after-requires Inv-loop μ-loop
 nth-after-requires c κs = search needs
@@ -58,8 +59,8 @@ array-copy-out-held-clock c = turn (c .before .before .before .loop .j) (c .befo
 held-clock-requires : tie.Need-held-clock-requires Inv-loop μ-loop
 held-clock-requires c κs = search needs
 
-put-clock-requires : tie.Need-put-clock-requires Inv-loop μ-loop
-put-clock-requires c κs = search needs
+replace-clock-requires : tie.Need-replace-clock-requires Inv-loop μ-loop
+replace-clock-requires c κs = search needs
 
 resumed-requires : tie.Need-resumed-requires Inv-loop μ-loop
 resumed-requires c κs = search needs
@@ -85,16 +86,16 @@ loop-again c =
     let bits = bitsAt (a .t .now) in
     let found = rw (l .inv .3) at (c2 .nth-after .ensures) in
     let slot = found ∙ ap (nthFrom (drop (l .from .0) bits) (l .from .0 + 1)) (sym (add-zero (l .n .0))) ∙ l .inv .5 0 ∙ ap (nthSet bits) (add-zero (first + l .j)) in
-    let put = rw (c .before .before .before .before .before .held-clock .ensures, slot) at (c .before .before .before .put-clock .ensures) in
+    let put = rw (c .before .before .before .before .before .held-clock .ensures, slot) at (c .before .before .before .replace-clock .ensures) in
     let next : first + l .j + 1 ≡ first + (l .j + 1) = omega arith in
     let step =
     rw (getD-take (p .count) (p .clocks) (l .j) blankClock (near .1)) at
-    (place-step heldClockBytes 12 36 (heldClock true (p .epoch) (p .ssr)) records (l .j) blankClock (l .t) (bitsAt (a .t .now)) (first + l .j) within)
+    (place-step clockReplaces noClock heldClockOf heldClockBytes 12 clock-long 36 (heldClock true (p .epoch) (p .ssr)) records (l .j) blankClock (l .t) (bitsAt (a .t .now)) (first + l .j) within)
     in (
       omega arith,
       l .inv .1,
-      c .before .before .before .put-clock .kept .0 ∙ l .inv .2,
-      rw (c .before .before .before .put-clock .ensures) (clock-bits (l .t) _ _ ∙ l .inv .3),
+      c .before .before .before .replace-clock .kept .0 ∙ l .inv .2,
+      rw (c .before .before .before .replace-clock .ensures) (clock-bits (l .t) _ _ ∙ l .inv .3),
       rw (put, ← next) (sym step ∙ l .inv .4),
       λ k.
           let e : first + l .j + (1 + k) ≡ first + (l .j + 1) + k = omega arith in
@@ -114,10 +115,11 @@ returns c =
     let records = take (p .count) (p .clocks) in
     let bits = bitsAt (a .t .now) in
     let end : length records ≤ l .j = ⊎-elim (λ h. omega (arith, length-take (p .count) (p .clocks))) (λ h. omega (arith, length-take (p .count) (p .clocks))) (stop (l .j) (p .count) (c .loop-test .left)) in
-    sym (place-end heldClockBytes 12 36 (heldClock true (p .epoch) (p .ssr)) records (l .j) blankClock (l .t) bits (first + l .j) end)
+    sym (place-end clockReplaces noClock heldClockOf heldClockBytes 12 clock-long 36 (heldClock true (p .epoch) (p .ssr)) records (l .j) blankClock (l .t) bits (first + l .j) end)
     ∙ l .inv .4
-    ∙ ap (λ (n : ℕ). putClocks (a .t .now) (byPlace (heldClock true (p .epoch) (p .ssr)) bits records n)) (c .before .before .first-place .ensures ∙ as-near _ (c0 .pre .1))
-    ∙ ap (putClocks (a .t .now)) (sym (clocks-placed (maskAt (a .t .now)) (a .kind) p (placed-not-7 (maskAt (a .t .now)) (a .kind) p (c0 .pre .0)) (c0 .pre .0)))
+    ∙ ap (λ (n : ℕ). replaceClocks (a .t .now) (byPlace (heldClock true (p .epoch) (p .ssr)) bits records n)) (c .before .before .first-place .ensures)
+    ∙ ap (replaceClocks (a .t .now)) (place-same (heldClock true (p .epoch) (p .ssr)) bits records (firstPlace (a .kind) p) (length-bits (a .t .now)))
+    ∙ ap (replaceClocks (a .t .now)) (sym (clocks-placed (maskAt (a .t .now)) (a .kind) p (placed-not-7 (maskAt (a .t .now)) (a .kind) p (c0 .pre)) (c0 .pre)))
 
 pub clocks-by-place-spec : {M : Type 1} → statement M
 clocks-by-place-spec =
@@ -132,7 +134,7 @@ clocks-by-place-spec =
     mul-held-clock
     array-copy-out-held-clock
     held-clock-requires
-    put-clock-requires
+    replace-clock-requires
     resumed-requires
     add-j
     loop-less

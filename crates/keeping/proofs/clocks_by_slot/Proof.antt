@@ -7,14 +7,15 @@ use mathlib.Core.Path.{_≡_, sym, _∙_, refl}
 use lib.ListN.{length, drop}
 use Rattle.records.specs.Clock.{blankClock}
 use Rattle.records.specs.declared.clock.Clock.{Clock}
-use Rattle.held_clocks.specs.Clocks.{heldClockBytes, putClocks}
+use Rattle.held_clocks.specs.Clocks.{clockReplaces, noClock, heldClockOf, heldClockBytes, replaceClocks}
+use Rattle.held_clocks.proofs.ClockLaws.{clock-long}
 use Rattle.places.specs.Keeps.{heldClock, bySlot, clocksOf}
 use Rattle.places.proofs.KeepLaws.{length-mapped, slot-step, slot-end}
-use Rattle.ledger.proofs.take.clocks_by_slot.Statement.{statement}
-use Rattle.ledger.proofs.take.clocks_by_slot.Tie as tie
+use Rattle.keeping.proofs.clocks_by_slot.Statement.{statement}
+use Rattle.keeping.proofs.clocks_by_slot.Tie as tie
 
 abbrev Inv-loop : tie.InvT-loop
-Inv-loop t₀ p ks j₀ t j = (j ≤ 23) × (length (p .clocks) ≡ 23) × (length t ≡ length t₀) × (putClocks t (bySlot (λ (k : Clock). k .slot) (heldClock false (p .epoch) (p .ssr)) (drop j (p .clocks))) ≡ putClocks t₀ (bySlot (λ (k : Clock). k .slot) (heldClock false (p .epoch) (p .ssr)) (p .clocks)))
+Inv-loop t₀ p ks j₀ t j = (j ≤ 23) × (length (p .clocks) ≡ 23) × (length t ≡ length t₀) × (replaceClocks t (bySlot (λ (k : Clock). k .slot) (heldClock false (p .epoch) (p .ssr)) (drop j (p .clocks))) ≡ replaceClocks t₀ (bySlot (λ (k : Clock). k .slot) (heldClock false (p .epoch) (p .ssr)) (p .clocks)))
 
 abbrev μ-loop : tie.MeasureT-loop
 μ-loop t₀ p ks j₀ t j = 23 - j
@@ -34,8 +35,8 @@ held-clock-requires c κs = search needs
 slot-named-requires : tie.Need-slot-named-requires Inv-loop μ-loop
 slot-named-requires c κs = search needs
 
-put-clock-requires : tie.Need-put-clock-requires Inv-loop μ-loop
-put-clock-requires c κs = search needs
+replace-clock-requires : tie.Need-replace-clock-requires Inv-loop μ-loop
+replace-clock-requires c κs = search needs
 
 add-j : tie.Need-add-j Inv-loop μ-loop
 add-j c = search needs
@@ -47,11 +48,11 @@ loop-again : tie.Need-loop-again Inv-loop μ-loop
 loop-again c =
     let l = c .before .before .before .before .before .before .before .before .loop in
     let p = c .before .before .before .before .before .before .before .before .before .before .before .args .p in
-    let put = rw (c .before .before .before .before .before .held-clock .ensures, c .before .before .before .slot-named .ensures) at (c .before .before .put-clock .ensures) in (
+    let put = rw (c .before .before .before .before .before .held-clock .ensures, c .before .before .before .slot-named .ensures) at (c .before .before .replace-clock .ensures) in (
       omega arith,
       l .inv .1,
-      c .before .before .put-clock .kept .0 ∙ l .inv .2,
-      rw put (sym (slot-step heldClockBytes 12 36 (heldClock false (p .epoch) (p .ssr)) (p .clocks) (l .j) blankClock (l .t) (λ (k : Clock). k .slot) (omega arith)) ∙ l .inv .3),
+      c .before .before .replace-clock .kept .0 ∙ l .inv .2,
+      rw put (sym (slot-step clockReplaces noClock heldClockOf heldClockBytes 12 clock-long 36 (heldClock false (p .epoch) (p .ssr)) (p .clocks) (l .j) blankClock (l .t) (λ (k : Clock). k .slot) (omega arith)) ∙ l .inv .3),
     )
 
 same-length : tie.Need-same-length Inv-loop μ-loop
@@ -62,7 +63,7 @@ unfolding clocksOf
 returns c =
     let l = c .before .loop in
     let p = c .before .before .before .before .args .p in
-    sym (slot-end heldClockBytes 12 36 (heldClock false (p .epoch) (p .ssr)) (p .clocks) (l .j) blankClock (l .t) (λ (k : Clock). k .slot) (omega arith)) ∙ l .inv .3
+    sym (slot-end clockReplaces noClock heldClockOf heldClockBytes 12 clock-long 36 (heldClock false (p .epoch) (p .ssr)) (p .clocks) (l .j) blankClock (l .t) (λ (k : Clock). k .slot) (omega arith)) ∙ l .inv .3
 
 pub clocks-by-slot-spec : {M : Type 1} → statement M
 clocks-by-slot-spec =
@@ -75,7 +76,7 @@ clocks-by-slot-spec =
     array-copy-out-k
     held-clock-requires
     slot-named-requires
-    put-clock-requires
+    replace-clock-requires
     add-j
     loop-less
     loop-again

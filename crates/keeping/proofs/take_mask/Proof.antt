@@ -1,8 +1,8 @@
 use borrow.Author.Needs.{needs}
 use mathlib.Core.Path.{_∙_}
 use Rattle.in_force.specs.Bytes.{maskBytes}
-use Rattle.ledger.proofs.take.take_mask.Statement.{statement}
-use Rattle.ledger.proofs.take.take_mask.Tie as tie
+use Rattle.keeping.proofs.take_mask.Statement.{statement}
+use Rattle.keeping.proofs.take_mask.Tie as tie
 
 drop-for-requires : tie.Need-drop-for-requires
 drop-for-requires c κs = search needs

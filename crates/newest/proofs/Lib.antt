@@ -1,0 +1,2 @@
+mod NewestLaws
+pub mod TargetLaws
