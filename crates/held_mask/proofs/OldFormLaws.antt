@@ -12,8 +12,8 @@ use Rattle.bits.specs.Bits.{bitAt}
 use Rattle.bits.specs.Pick.{pick}
 use Rattle.bits.specs.Table.{table}
 use Rattle.bits.proofs.TableLaws.{length-table, getD-table, table-ext, table-same}
-use Rattle.lent.specs.Digits.{flagOf, flagsOf}
-use Rattle.lent.proofs.DigitLaws.{flag-back, flag-at}
+use Rattle.lent.specs.Digits.{flagOf}
+use Rattle.lent.proofs.DigitLaws.{flag-back}
 use Rattle.contents.specs.Parts.{maskBitAt, maskBitsAt, bitsOf}
 use Rattle.slots.specs.Slots.{setCount, nthSet}
 use Rattle.mask_bits.specs.Bits.{bitAtSlot}
@@ -67,11 +67,16 @@ length-old : (old : List ℕ) → length (oldBits old) ≡ 255
 unfolding oldBits
 length-old old = length-table _ 255
 
+-- a byte for each bit
+oldOf : List Bool → List ℕ
+oldOf bs = table (λ (i : ℕ). flagOf (getD bs i false)) 255
+
 -- every list of 255 bits has an old form
-old-of : (bs : List Bool) → length bs ≡ 255 → oldBits (flagsOf bs) ≡ bs
-unfolding oldBits
+old-of : (bs : List Bool) → length bs ≡ 255 → oldBits (oldOf bs) ≡ bs
+unfolding oldBits oldOf
 old-of bs long =
-    table-ext (λ (i : ℕ). eqb (getD (flagsOf bs) i 0) 1) (λ (i : ℕ). getD bs i false) 255 (λ i h. rw (flag-at bs i h) (flag-back (getD bs i false)))
+    table-ext (λ (i : ℕ). eqb (getD (oldOf bs) i 0) 1) (λ (i : ℕ). getD bs i false) 255
+    (λ i h. rw (getD-table (λ (j : ℕ). flagOf (getD bs j false)) 255 i 0 h) (flag-back (getD bs i false)))
     ∙ table-same bs 255 false long
 
 same : (old : List ℕ) → SameAsOldForm old
@@ -89,4 +94,4 @@ same old =
     }
 
 pub same-as-old-form : OldForm
-same-as-old-form = record { every = λ bs long. (flagsOf bs, old-of bs long); same = same }
+same-as-old-form = record { every = λ bs long. (oldOf bs, old-of bs long); same = same }

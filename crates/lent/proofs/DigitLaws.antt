@@ -1,15 +1,12 @@
 -- Numbers as lent bytes hold them: there and back, for every number.
 use mathlib.Core.Path.{_≡_, refl, ap}
 use mathlib.Core.Bool.{Bool, true, false}
-use mathlib.Core.List.{List}
-use Prim.Native.Nat.{ℕ, _+_, _*_, _/_, _%_, _<_}
+use Prim.Native.Nat.{ℕ, _+_, _*_, _/_, _%_}
 use lib.Dec.{eqb}
 use lib.IntN.{ℤ, pos, negsuc}
-use lib.ListN.{getD, length}
 use native.Mathlib.Omega.{arith}
 use borrow.Author.Tests.{eq-eqb, ne-eqb}
-use Rattle.bits.proofs.TableLaws.{length-table, getD-table}
-use Rattle.lent.specs.Digits.{flagOf, flagsOf, pairOf, quadOf, zigOf, zagOf}
+use Rattle.lent.specs.Digits.{flagOf, pairOf, quadOf, zigOf, zagOf}
 
 -- two bytes back
 pub pair-back : (v : ℕ) → pairOf (v / 256) (v % 256) ≡ v
@@ -28,11 +25,3 @@ zag-zig (negsuc m) = rw (ne-eqb ((2 * m + 1) % 2) 0 (λ q. omega arith)) (ap neg
 pub flag-back : (b : Bool) → eqb (flagOf b) 1 ≡ b
 flag-back true = refl
 flag-back false = refl
-
-pub length-flags : (bits : List Bool) → length (flagsOf bits) ≡ 255
-unfolding flagsOf
-length-flags bits = length-table _ 255
-
-pub flag-at : (bits : List Bool) (i : ℕ) → i < 255 → getD (flagsOf bits) i 0 ≡ flagOf (getD bits i false)
-unfolding flagsOf
-flag-at bits i h = getD-table _ 255 i 0 h

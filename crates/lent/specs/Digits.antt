@@ -1,20 +1,15 @@
 -- Numbers as lent bytes hold them: flags, two bytes, four bytes, a number with its sign.
 use Prim.Native.Nat.{ℕ, _+_, _*_, _/_, _%_}
-use mathlib.Core.Bool.{Bool, false}
+use mathlib.Core.Bool.{Bool}
 use mathlib.Core.List.{List}
 use lib.Dec.{eqb}
 use lib.IntN.{ℤ, pos, negsuc}
 use lib.ListN.{getD}
 use Rattle.bits.specs.Pick.{pick}
-use Rattle.bits.specs.Table.{table}
 
 -- a flag: 1 if it holds, else 0
 abbrev pub flagOf : Bool → ℕ
 flagOf b = pick b 1 0
-
--- the flags of slots 1 to 255
-unfoldable pub flagsOf : List Bool → List ℕ
-flagsOf bits = table (λ (i : ℕ). flagOf (getD bits i false)) 255
 
 -- the number that a high and a low byte say
 abbrev pub pairOf : ℕ → ℕ → ℕ

@@ -3,7 +3,7 @@ ghost use mathlib.Core.Path.{_≡_};
 ghost use Prim.Native.Nat.{_+_, _-_, _≤_, _<_};
 ghost use lib.ListN.{length, getD, replicate};
 ghost use Rattle.bits.specs.Bytes.{storeAt};
-ghost use Rattle.lent.specs.Digits.{flagOf, flagsOf, zigOf, zagOf, pairOf, quadOf, twoAt, fourAt};
+ghost use Rattle.lent.specs.Digits.{flagOf, zigOf, zagOf, pairOf, quadOf, twoAt, fourAt};
 
 // The bytes of r are stored from at on, where there is room for all of them.
 fn store_whole(t: &mut [u8], at: usize, r: &[u8])
@@ -51,19 +51,6 @@ pub fn flag(b: bool) -> u8
     ensures { λ r. ⌜ r ≡ flagOf b ⌝ }
 {
     if b { 1 } else { 0 }
-}
-
-// The flags of slots 1 to 255 as bytes.
-pub fn flags_of(bits: [bool; 255]) -> [u8; 255]
-    ensures { λ r. ⌜ r ≡ flagsOf bits ⌝ }
-{
-    let mut out = [0u8; 255];
-    let mut i: usize = 0;
-    while i < 255 {
-        out[i] = flag(bits[i]);
-        i += 1;
-    }
-    out
 }
 
 // A number with its sign as one without.
