@@ -273,10 +273,19 @@ static void put_reserved(unsigned width)
 
 static bool slip(unsigned percent) { return draft.faulty && chance(percent); }
 
+#define PICK(list) list[below(sizeof list / sizeof list[0])]
+
+/* The epoch that this log leans on: most are at or near it, or half a day off, so
+ * that records of one issue meet in every way. */
+static uint32_t leaning_epoch;
+
 static uint32_t some_epoch(void)
 {
+    static const uint32_t ahead[] = { 0, 0, 0, 1, 86399, 43199, 43200, 43201 };
     if (slip(8))
         return chance(50) ? 86400 : between(86400, 131071);
+    if (chance(50))
+        return (leaning_epoch + PICK(ahead)) % 86400;
     return chance(5) ? 86399 : below(86400);
 }
 
@@ -558,6 +567,7 @@ static void some_leaning(struct leaning *l)
 {
     unsigned corrs = 1 + below(3), slot;
     memset(l, 0, sizeof *l);
+    leaning_epoch = chance(20) ? (chance(50) ? 0 : 86399) : below(86400);
     some_mask(&l->pool[0]);
     for (int i = 1; i < 6; i++)
         l->pool[i] = l->pool[0];
@@ -712,8 +722,6 @@ static void form_put(uint8_t *form, size_t at, int size, uint32_t value)
     for (int i = 0; i < size; i++)
         form[at + (size_t)i] = (uint8_t)(value >> 8 * (size - 1 - i));
 }
-
-#define PICK(list) list[below(sizeof list / sizeof list[0])]
 
 static void tweak_head(uint8_t *form, size_t part)
 {
@@ -2031,6 +2039,13 @@ static void print_head(int which)
     printf("%s\n", which == 0 ? "      all" : "");
 }
 
+/* How a record can meet the one that is held for its slot, in ref.h's order. */
+static const char *const met_name[MEETINGS] = {
+    "none held", "other IOD SSR", "other IOD SSR and older", "other IOD Corr", "other IOD Corr and older", "newer", "older",
+    "of the same epoch", "43199 ahead", "43200 ahead", "43201 ahead", "newer over midnight",
+    "usable and older than an unusable one", "older than one that a mask dropped",
+};
+
 static void print_table(void)
 {
     for (int which = 0; which < 3; which++)
@@ -2056,6 +2071,9 @@ static void print_table(void)
            masks_changed, frames_noise, lists_with_rows, rows_seen, rows_of_any_bytes);
     printf("%lu made frames read as their messages\n", frames_read_back);
     printf("%lu subframes with at most one flip in each code word\n", subframes_corrected);
+    printf("records that met the one held:");
+    for (int i = 0; i < MEETINGS; i++)
+        printf(" %lu %s%s", ref_met[i], met_name[i], i + 1 < MEETINGS ? "," : "\n");
     printf("%lu pieces, %lu pairs of good frames that overlap\n", pieces_compared, overlaps_seen);
     printf("beside 6 and 19: %u first groups, %u numbers of failing groups, %u numbers of places\n",
            count_seen(first_seen, GROUPS), count_seen(failing_seen, GROUPS), count_seen(places_seen, SLOTS));
@@ -2075,6 +2093,11 @@ static bool too_few(void)
     for (unsigned n = 0; n <= FRAME_BYTES; n++)
         if (pieces_of_length[n] < 20) {
             printf("compare: a piece of %u bytes came only %lu times\n", n, pieces_of_length[n]);
+            few = true;
+        }
+    for (int i = 0; i < MEETINGS; i++)
+        if (ref_met[i] < WANTED) {
+            printf("compare: a record that is %s met the one held only %lu times\n", met_name[i], ref_met[i]);
             few = true;
         }
     if (count_seen(first_seen, GROUPS) < GROUPS) {

@@ -804,6 +804,139 @@ static void zeros(void)
 
 /* ---- what needs no frame ---- */
 
+/* ---- the newest epoch ---- */
+
+/* Contents with another epoch, of both parts. */
+static struct contents at(uint32_t epoch, struct contents c)
+{
+    c.clocks.epoch = c.kind == 2 ? 0 : epoch;
+    c.orbits.epoch = c.kind == 2 || c.orbits.count > 0 ? epoch : 0;
+    return c;
+}
+
+/* A clock of slot 19 with another IOD SSR or IOD Corr than 1 and 2. */
+static struct contents clock_of_issue(unsigned ssr, unsigned corr, int clock)
+{
+    struct contents c = clock_by_slot(19, clock);
+    c.clocks.iod_ssr = (uint8_t)ssr;
+    c.clocks.record[0].iod_corr = (uint8_t)corr;
+    return c;
+}
+
+/* Orbits and clocks of an hour ago, of the issue that is held, are taken and
+ * change nothing; the next new ones count again. */
+static void replayed_hour(void)
+{
+    begin("replayed-hour");
+    hand_contents(mask_of(1, 5, false), 0, NO_ROWS);
+    hand_contents(at(7200, orbits_of(2)), 0, NO_ROWS);
+    hand_contents(at(7206, four_clocks(1, 2, 3, 4)), 0, ROW_19("1600", "32") ROW_64("48"));
+    hand_contents(at(3600, orbit_alone(orbit_19(7))), 0, ROW_19("1600", "32") ROW_64("48"));
+    hand_contents(at(3606, four_clocks(5, 6, 7, 8)), 0, ROW_19("1600", "32") ROW_64("48"));
+    hand_contents(at(3612, clock_by_slot(19, 9)), 0, ROW_19("1600", "32") ROW_64("48"));
+    hand_contents(at(7248, orbit_alone(orbit_19(10))), 0, ROW_19("160", "32") ROW_64("48"));
+    hand_contents(at(7212, four_clocks(11, 12, 13, 14)), 0, ROW_19("160", "192") ROW_64("208"));
+    end();
+}
+
+/* 43199 s ahead is newer, 43200 and 43201 are not; an equal epoch replaces. */
+static void half_a_day(void)
+{
+    begin("half-a-day");
+    hand_contents(mask_of(1, 5, false), 0, NO_ROWS);
+    hand_contents(at(0, orbit_alone(orbit_19(1))), 0, NO_ROWS);
+    hand_contents(at(0, clock_by_slot(19, 1)), 0, ROW_19("16", "16"));
+    hand_contents(at(43199, clock_by_slot(19, 2)), 0, ROW_19("16", "32"));
+    hand_contents(at(86399, clock_by_slot(19, 3)), 0, ROW_19("16", "32"));
+    hand_contents(at(0, clock_by_slot(19, 4)), 0, ROW_19("16", "32"));
+    hand_contents(at(43199, clock_by_slot(19, 5)), 0, ROW_19("16", "80"));
+    hand_contents(at(43199, orbit_alone(orbit_19(2))), 0, ROW_19("32", "80"));
+    hand_contents(at(86399, orbit_alone(orbit_19(3))), 0, ROW_19("32", "80"));
+    hand_contents(at(0, orbit_alone(orbit_19(4))), 0, ROW_19("32", "80"));
+    hand_contents(at(43199, orbit_alone(orbit_19(5))), 0, ROW_19("80", "80"));
+    end();
+}
+
+/* 5 is 15 s ahead of 86390, and 86390 is not ahead of 5. */
+static void over_midnight(void)
+{
+    begin("over-midnight");
+    hand_contents(mask_of(1, 5, false), 0, NO_ROWS);
+    hand_contents(at(86390, orbits_of(2)), 0, NO_ROWS);
+    hand_contents(at(86390, four_clocks(1, 2, 3, 4)), 0, ROW_19("1600", "32") ROW_64("48"));
+    hand_contents(at(5, four_clocks(5, 6, 7, 8)), 0, ROW_19("1600", "96") ROW_64("112"));
+    hand_contents(at(86390, four_clocks(9, 10, 11, 12)), 0, ROW_19("1600", "96") ROW_64("112"));
+    hand_contents(at(10, orbit_alone(orbit_19(6))), 0, ROW_19("96", "96") ROW_64("112"));
+    hand_contents(at(86399, orbit_alone(orbit_19(7))), 0, ROW_19("96", "96") ROW_64("112"));
+    end();
+}
+
+/* With another IOD Corr, or another IOD SSR, the latest to arrive counts, however
+ * old it is: the clock then does not agree with the orbit or with the mask, and the
+ * one after it is again of another issue than the one held. */
+static void another_issue(void)
+{
+    begin("another-issue");
+    hand_contents(mask_of(1, 5, false), 0, NO_ROWS);
+    hand_contents(at(7200, orbit_alone(orbit_19(1))), 0, NO_ROWS);
+    hand_contents(at(7200, clock_by_slot(19, 1)), 0, ROW_19("16", "16"));
+    hand_contents(at(3600, clock_of_issue(1, 3, 2)), 0, NO_ROWS);
+    hand_contents(at(3000, clock_by_slot(19, 3)), 0, ROW_19("16", "48"));
+    hand_contents(at(2400, clock_of_issue(2, 2, 4)), 0, NO_ROWS);
+    hand_contents(at(1800, clock_by_slot(19, 5)), 0, ROW_19("16", "80"));
+    end();
+}
+
+/* The mask with IODP 6 drops the clocks that came by place. A dropped clock holds
+ * nothing off: an older one of its issue counts. */
+static void dropped_clock(void)
+{
+    begin("dropped-clock");
+    hand_contents(mask_of(1, 5, false), 0, NO_ROWS);
+    hand_contents(at(7200, orbit_alone(orbit_19(1))), 0, NO_ROWS);
+    hand_contents(at(7200, four_clocks(1, 2, 3, 4)), 0, ROW_19("16", "32"));
+    hand_contents(at(3600, clock_by_slot(19, 5)), 0, ROW_19("16", "32"));
+    hand_contents(mask_of(1, 6, true), 0, NO_ROWS);
+    hand_contents(at(3600, clock_by_slot(19, 6)), 0, ROW_19("16", "96"));
+    end();
+}
+
+/* An unusable clock counts like any other: a usable one of its issue that is older
+ * does not come into force, a newer one does. */
+static void unusable_newer(void)
+{
+    begin("unusable-newer");
+    hand_contents(mask_of(1, 5, false), 0, NO_ROWS);
+    hand_contents(at(3600, orbit_alone(orbit_19(1))), 0, NO_ROWS);
+    hand_contents(at(3600, clock_by_slot(19, 1)), 0, ROW_19("16", "16"));
+    hand_contents(at(3606, clock_by_slot(19, UNUSABLE_15)), 0, NO_ROWS);
+    hand_contents(at(3600, clock_by_slot(19, 2)), 0, NO_ROWS);
+    hand_contents(at(3612, clock_by_slot(19, 3)), 0, ROW_19("16", "48"));
+    end();
+}
+
+/* Each part of a type 7 goes by its own epoch: first its clock is newer and its
+ * orbit older, then the other way round. */
+static void own_epochs(void)
+{
+    struct contents c = seven(1, 1);
+    c.clocks.record[0] = (struct clock_record){ 19, 2, 2 };
+    c.orbits.record[0] = orbit_19(2);
+    begin("own-epochs");
+    hand_contents(mask_of(1, 5, false), 0, NO_ROWS);
+    hand_contents(at(7200, orbit_alone(orbit_19(1))), 0, NO_ROWS);
+    hand_contents(at(7200, clock_by_slot(19, 1)), 0, ROW_19("16", "16"));
+    c.clocks.epoch = 7206;
+    c.orbits.epoch = 7194;
+    hand_contents(c, 0, ROW_19("16", "32"));
+    c.clocks.record[0].c0 = 3;
+    c.orbits.record[0] = orbit_19(3);
+    c.clocks.epoch = 7200;
+    c.orbits.epoch = 7206;
+    hand_contents(c, 0, ROW_19("48", "32"));
+    end();
+}
+
 /* The field, the check, the appendix's word: worked examples of the rules. The
  * print's columns have 21 lines; symbol 0 stands in line 8 of the first and line
  * 5 of the second, symbol 42 in lines 3 and 8 of the first, symbol 161 in line 16
@@ -892,6 +1025,13 @@ int main(int argc, char **argv)
     no_mask();
     amiss();
     zeros();
+    replayed_hour();
+    half_a_day();
+    over_midnight();
+    another_issue();
+    dropped_clock();
+    unusable_newer();
+    own_epochs();
     after_the_cases();
     return 0;
 }

@@ -628,7 +628,7 @@ static void take_mask(struct ledger *ledger, const struct mask *mask)
     if (!ledger->has_mask || masks_differ(&ledger->mask, mask))
         for (int slot = 1; slot <= SLOTS; slot++)
             if (ledger->clock[slot].by_place)
-                memset(&ledger->clock[slot], 0, sizeof ledger->clock[slot]);
+                ledger->clock[slot].held = ledger->clock[slot].by_place = false;
     ledger->has_mask = true;
     ledger->mask = *mask;
     ledger->places = 0;
@@ -637,10 +637,44 @@ static void take_mask(struct ledger *ledger, const struct mask *mask)
             ledger->slot_at[++ledger->places] = (uint8_t)slot;
 }
 
+unsigned long ref_met[MEETINGS];
+
+/* A record meets the one that is held for its slot: whether it replaces it. With
+ * equal IOD SSR and IOD Corr it does only if its epoch is, around the clock, less
+ * than half a day ahead; with another issue, and where none is held, always. */
+static bool replaces(bool held, unsigned held_ssr, unsigned held_corr, uint32_t held_epoch, unsigned ssr, unsigned corr,
+                     uint32_t epoch)
+{
+    const uint32_t day = LAST_EPOCH + 1;
+    uint32_t ahead = epoch >= held_epoch ? epoch - held_epoch : day - (held_epoch - epoch);
+
+    if (!held) {
+        ref_met[NONE_HELD]++;
+        ref_met[OLDER_THAN_DROPPED] += held_epoch != 0 && held_ssr == ssr && held_corr == corr && ahead >= day / 2;
+    } else if (held_ssr != ssr)
+        ref_met[ahead < day / 2 ? SSR_DIFFERS : SSR_DIFFERS_OLDER]++;
+    else if (held_corr != corr)
+        ref_met[ahead < day / 2 ? CORR_DIFFERS : CORR_DIFFERS_OLDER]++;
+    else {
+        ref_met[ahead < day / 2 ? NEWER : OLDER]++;
+        ref_met[EPOCHS_EQUAL] += ahead == 0;
+        ref_met[AHEAD_43199] += ahead == 43199;
+        ref_met[AHEAD_43200] += ahead == 43200;
+        ref_met[AHEAD_43201] += ahead == 43201;
+        ref_met[OVER_MIDNIGHT] += ahead < day / 2 && epoch < held_epoch;
+        return ahead < day / 2;
+    }
+    return true;
+}
+
 static void take_clock(struct ledger *ledger, unsigned slot, bool by_place, const struct clock_part *part,
                        const struct clock_record *record)
 {
     struct held_clock *held = &ledger->clock[slot];
+    if (!replaces(held->held, held->iod_ssr, held->iod_corr, held->epoch, part->iod_ssr, record->iod_corr, part->epoch)) {
+        ref_met[UNUSABLE_HOLDS_OFF] += held->c0 == -16384 && record->c0 != -16384;
+        return;
+    }
     held->held = true;
     held->by_place = by_place;
     held->epoch = part->epoch & EPOCH_BITS;
@@ -655,6 +689,9 @@ static void take_orbits(struct ledger *ledger, const struct orbit_part *part)
         const struct orbit_record *record = &part->record[i];
         if (record->slot != 0) {
             struct held_orbit *held = &ledger->orbit[record->slot];
+            if (!replaces(held->held, held->iod_ssr, held->record.iod_corr, held->epoch, part->iod_ssr, record->iod_corr,
+                          part->epoch))
+                continue;
             held->held = true;
             held->epoch = part->epoch & EPOCH_BITS;
             held->iod_ssr = part->iod_ssr;

@@ -173,6 +173,27 @@ unsigned ref_write(const struct contents *in, uint8_t *room, size_t length);
 unsigned ref_read_frame(const uint8_t *frame, size_t length, struct contents *out);
 unsigned ref_read_frame_detail(const uint8_t *frame, size_t length, struct contents *out, struct detail *detail);
 
+/* How often a record met the one held for its slot, of the same kind, in these
+ * ways, over all ledgers. */
+enum {
+    NONE_HELD,
+    SSR_DIFFERS,
+    SSR_DIFFERS_OLDER, /* and by its epoch it would not replace */
+    CORR_DIFFERS,
+    CORR_DIFFERS_OLDER,
+    NEWER, /* the same issue, and replaces */
+    OLDER, /* the same issue, and does not */
+    EPOCHS_EQUAL,
+    AHEAD_43199,
+    AHEAD_43200,
+    AHEAD_43201,
+    OVER_MIDNIGHT,
+    UNUSABLE_HOLDS_OFF, /* an unusable clock, and a usable older one */
+    OLDER_THAN_DROPPED, /* none held: a mask dropped one of the same issue that is newer */
+    MEETINGS
+};
+extern unsigned long ref_met[MEETINGS];
+
 /* The ledger: 4 on opening; 1, 3 to 15, 19 on taking a frame. A ledger whose PRN
  * is none of the ten takes no frame. */
 unsigned ref_open(struct ledger *ledger, unsigned prn);

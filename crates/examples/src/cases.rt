@@ -138,3 +138,14 @@ pub(crate) fn the_list() {
     case(b"amiss", true);
     case(b"zeros", true);
 }
+
+// The cases of CR 3: which of two records for a slot counts.
+pub(crate) fn the_newest() {
+    case(b"replayed-hour", true);
+    case(b"half-a-day", true);
+    case(b"over-midnight", true);
+    case(b"another-issue", true);
+    case(b"dropped-clock", true);
+    case(b"unusable-newer", true);
+    case(b"own-epochs", true);
+}

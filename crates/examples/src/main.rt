@@ -244,5 +244,6 @@ fn main() {
     say_opened();
     cases::refusals();
     cases::the_list();
+    cases::the_newest();
     ask::asked();
 }

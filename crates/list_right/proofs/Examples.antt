@@ -1,13 +1,14 @@
 -- 01, Examples to hold against it: the statement holds, computed.
 use mathlib.Core.Path.{_≡_, refl, _∙_}
 use mathlib.Core.List.{[], _∷_}
+use Rattle.bits.specs.Bits.{bitAt}
 use Rattle.bits.specs.Table.{table}
 use Rattle.bits.specs.Some.{anyOf}
 use Rattle.field64.proofs.Examples.{products}
 use Rattle.check24.proofs.Examples.{checks}
 use Rattle.slots.specs.Slots.{setCount, nthFrom}
 use Rattle.layout.specs.Layout.{layoutOf}
-use Rattle.contents.specs.Parts.{noMask, noClocks, noOrbits}
+use Rattle.contents.specs.Parts.{maskBitsAt, noMask, noClocks, noOrbits}
 use Rattle.judge.specs.Judge.{clockSlots, orbitSlots, refusalOf}
 use Rattle.judge.proofs.Examples.{refused-6-3-5}
 use Rattle.lookback.specs.Store.{naming, allSame}
@@ -16,6 +17,7 @@ use Rattle.newest.specs.Newest.{isNewer, replaces}
 use Rattle.held_clocks.specs.Clocks.{clockReplaces}
 use Rattle.held_orbits.specs.Orbits.{orbitReplaces}
 use Rattle.held_mask.specs.Mask.{sameBits, sameMask}
+use Rattle.held_mask.specs.OldForm.{numberOf, packed}
 use Rattle.places.specs.Keeps.{byPlace, bySlot, maskOf, orbitsOf, clocksOf, placeRefusal, maskRefusal}
 use Rattle.row.specs.Row.{isAssigned, usable, agrees, qualifies, rowOf}
 use Rattle.list_right.specs.Examples.{one, two, four, other, sent, issues, row19, Hold}
@@ -29,7 +31,7 @@ judged = (refl, refl, refl, refl)
 
 -- 14 and 15 do not apply, under the mask that the contents before them leave
 placed : (maskRefusal (maskOver sent) other ≡ 0) × (maskRefusal (maskOver (two ∷ one ∷ [])) four ≡ 0) × (maskRefusal (maskOver (one ∷ [])) two ≡ 0) × (maskRefusal (maskOver []) one ≡ 0)
-unfolding placeRefusal maskOver maskOf setCount noMask noClocks noOrbits table
+unfolding placeRefusal maskOver maskOf maskBitsAt bitAt packed numberOf setCount noMask noClocks noOrbits table
 placed = (refl, refl, refl, refl)
 
 sound-sent : Sound sent
@@ -39,15 +41,15 @@ sound-other : Sound (other ∷ sent)
 sound-other = (judged .0, placed .0, sound-sent)
 
 whole-over : listOver 60 sent issues ≡ row19 ∷ []
-unfolding listOver maskOver orbitOver clockOver maskOf orbitsOf clocksOf byPlace bySlot naming clockReplaces orbitReplaces replaces isNewer allSame sameBits sameMask setCount nthFrom rowsFrom rowOf qualifies isAssigned agrees usable noMask noClocks noOrbits table
+unfolding listOver maskOver maskBitsAt bitAt packed numberOf orbitOver clockOver maskOf orbitsOf clocksOf byPlace bySlot naming clockReplaces orbitReplaces replaces isNewer allSame sameBits sameMask setCount nthFrom rowsFrom rowOf qualifies isAssigned agrees usable noMask noClocks noOrbits table
 whole-over = refl
 
 gone-over : listOver 60 (other ∷ sent) issues ≡ []
-unfolding listOver maskOver orbitOver clockOver maskOf orbitsOf clocksOf byPlace bySlot naming clockReplaces orbitReplaces replaces isNewer allSame sameBits sameMask setCount nthFrom rowsFrom rowOf qualifies isAssigned agrees usable noMask noClocks noOrbits table
+unfolding listOver maskOver maskBitsAt bitAt packed numberOf orbitOver clockOver maskOf orbitsOf clocksOf byPlace bySlot naming clockReplaces orbitReplaces replaces isNewer allSame sameBits sameMask setCount nthFrom rowsFrom rowOf qualifies isAssigned agrees usable noMask noClocks noOrbits table
 gone-over = refl
 
 again-over : maskRefusal (maskOver (other ∷ sent)) four ≡ 14
-unfolding placeRefusal maskOver maskOf setCount noMask noClocks noOrbits table
+unfolding placeRefusal maskOver maskOf maskBitsAt bitAt packed numberOf setCount noMask noClocks noOrbits table
 again-over = refl
 
 -- THE EXAMPLES HOLD

@@ -16,6 +16,7 @@ use Rattle.layout.specs.Layout.{layoutOf, endOf}
 use Rattle.contents.specs.Parts.{noMask, noClocks, noOrbits}
 use Rattle.contents.specs.declared.parts.Contents.{Contents}
 use Rattle.judge.specs.Judge.{refusalOf}
+use Rattle.held_mask.specs.OldForm.{packed}
 use Rattle.in_force.specs.Back.{refusalAfter}
 use Rattle.row.specs.declared.Row.{Row}
 use Rattle.list_right.specs.InForce.{listInForce}
@@ -29,7 +30,7 @@ maskBits (s ∷ ss) = set (maskBits ss) (s - 1) true
 
 -- type 1: epoch 3600, SSR 1
 abbrev pub mask : ℕ → List ℕ → Contents
-mask iodp ss = record { kind = 1; mask = record { epoch = 3600; ssr = 1; iodp = iodp; bits = maskBits ss }; clock = noClocks; orbit = noOrbits }
+mask iodp ss = record { kind = 1; mask = record { epoch = 3600; ssr = 1; iodp = iodp; bytes = packed (maskBits ss) }; clock = noClocks; orbit = noOrbits }
 
 -- type 1: IODP 5, slots 3, 19, 64, 101
 abbrev pub one : Contents

@@ -1,13 +1,14 @@
 -- The bits of a mask in bytes: a bit by its slot, many by the field that they make.
 use mathlib.Core.Path.{_≡_, refl, sym, ap, _∙_}
-use mathlib.Core.Logic.{_≢_}
-use mathlib.Core.Bool.{Bool, true, false}
+use mathlib.Core.Logic.{_≢_, dite}
+use mathlib.Core.Bool.{Bool, true, false, true≢false}
 use mathlib.Core.List.{List, [], _∷_, _++_}
 use Prim.Native.Nat.{ℕ, zero, suc, _+_, _-_, _*_, _/_, _%_, _≤_, _<_}
+use native.Mathlib.Decide.{decLt}
 use native.Mathlib.Omega.{arith}
 use lib.Dec.{eqb}
 use lib.Count.{ones, ones-step}
-use lib.ListN.{getD, length, drop}
+use lib.ListN.{getD, length, drop, List·getD-eq-default}
 use borrow.Author.Tests.{eq-eqb, ne-eqb}
 use Rattle.bits.specs.Bits.{bitAt, fieldAt}
 use Rattle.bits.specs.Pick.{pick}
@@ -37,6 +38,12 @@ module _ (s : List ℕ) (i x : ℕ) (h : i < 255) (e : x ≡ bitAt s (32 + i)) w
 
   pub bit-clear : x ≢ 1 → getD (bitsAt s) i false ≡ false
   bit-clear q = bit-at s i h ∙ rw (← e) (ne-eqb x 1 q)
+
+-- a bit that is set is one of the 255
+pub set-below : (s : List ℕ) (i : ℕ) → getD (bitsAt s) i false ≡ true → i < 255
+set-below s i e =
+    dite (decLt i 255) (λ h. h)
+    (λ n. absurd (true≢false (sym e ∙ List·getD-eq-default (bitsAt s) false (omega (arith, length-bits s)))))
 
 -- the bit of slot 1 to 255; slot 0 has none
 pub slot-bit : (s : List ℕ) (slot : ℕ) → 0 < slot → slot < 256 → bitAtSlot (bitsAt s) slot ≡ eqb (bitAt s (31 + slot)) 1

@@ -1,8 +1,9 @@
 // The bits of the mask that a ledger keeps, by slot and by place: docs/FORM.md. Any bytes are such a form; bytes past the end are 0.
 ghost use mathlib.Core.Path.{_≡_};
+ghost use mathlib.Core.Bool.{false};
 ghost use Prim.Native.Nat.{_+_, _-_, _*_, _%_, _<_, _≤_, min};
 ghost use lib.Dec.{eqb};
-ghost use lib.ListN.{drop};
+ghost use lib.ListN.{drop, getD};
 ghost use Rattle.bits.specs.Pick.{pick};
 ghost use Rattle.bits.specs.Table.{table};
 ghost use Rattle.contents.specs.Parts.{maskBitAt};
@@ -72,12 +73,13 @@ fn nth_by_bits(t: &[u8], from: usize, n: u16) -> Slot
     Slot(0)
 }
 
-// The slot of the n-th set bit after slot `from`, counting from 1. Slot 0 where there is none. A byte with fewer set bits than are sought is passed whole.
-pub fn nth_after(t: &[u8], from: Slot, n: Place) -> Slot
-    ensures { λ r. ⌜ r .0 ≡ nthFrom (drop (from .0) (bitsAt (now (t .entry)))) (from .0 + 1) (n .0) ⌝ }
+// The slot of the n-th set bit after slot `from`, counting from 1. A byte with fewer set bits than are sought is passed whole.
+fn nth_by_bytes(t: &[u8], from: usize, n: u16) -> Slot
+    requires { ⌜ from ≤ 255 ⌝ }
+    ensures { λ r. ⌜ r .0 ≡ nthFrom (drop from (bitsAt (now (t .entry)))) (from + 1) n ⌝ }
 {
-    let mut left = n.0;
-    let mut i = from.0 as usize;
+    let mut left = n;
+    let mut i = from;
     while i < 255 {
         let w = rest_of_byte(i);
         let c = ones_from(t, i, w);
@@ -88,6 +90,27 @@ pub fn nth_after(t: &[u8], from: Slot, n: Place) -> Slot
         i += w;
     }
     Slot(0)
+}
+
+// Whether the bit of slot i + 1 is set.
+fn is_set(t: &[u8], i: usize) -> bool
+    ensures { λ r. ⌜ r ≡ getD (bitsAt (now (t .entry))) i false ⌝ }
+{
+    if i < 255 {
+        return bits::bit(t, 32 + i) == 1;
+    }
+    false
+}
+
+// The slot of the n-th set bit after slot `from`, counting from 1. Slot 0 where there is none. Often it is the next slot.
+pub fn nth_after(t: &[u8], from: Slot, n: Place) -> Slot
+    ensures { λ r. ⌜ r .0 ≡ nthFrom (drop (from .0) (bitsAt (now (t .entry)))) (from .0 + 1) (n .0) ⌝ }
+{
+    let i = from.0 as usize;
+    if (n.0 == 1) & is_set(t, i) {
+        return Slot((i + 1) as u8);
+    }
+    nth_by_bytes(t, i, n.0)
 }
 
 // The slot of a place: that of the n-th set bit, counting from 1. Slot 0 where no satellite has the place.
