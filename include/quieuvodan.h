@@ -1,6 +1,7 @@
 /* Quieuvodan: BeiDou PPP-B2b messages read and written, frames made, checked and
- * kept in a ledger, and the list of the satellites that qualify; and subframes of
- * the D1 and D2 messages. For C and C++.
+ * kept in a ledger, and the list of the satellites that qualify; subframes of
+ * the D1 and D2 messages; and subframe 2 of B-CNAV1, whose IODC is joined into the
+ * issue list. For C and C++.
  *
  * Link with libquieuvodan.a (x86-64 Linux), which `rt staticlib quieuvodan`
  * writes to target/staticlib/. It uses memcpy and memset of the C library and
@@ -19,8 +20,8 @@
  * QVD_LENGTH comes before all others: a ledger, a form or a room that is not as
  * long as this header says. A length that the rules themselves speak of is
  * refused by their number instead: a frame, a message, the room for either and
- * the issue list with QVD_BAD_LENGTH, both lengths of the two functions on
- * subframes with QVD_D1_LENGTH.
+ * the issue list with QVD_BAD_LENGTH, both lengths of the two functions on D1 and
+ * D2 subframes with QVD_D1_LENGTH, a B-CNAV1 subframe with QVD_CNAV1_LENGTH.
  *
  * What the caller must keep, since no length can show it:
  * - each pointer is valid for the number of elements that follows it, also
@@ -52,8 +53,10 @@ enum {
     QVD_MOST_ROWS = 174,
     QVD_ROWS_BYTES = 4698, /* QVD_MOST_ROWS rows */
     QVD_CONTENTS_BYTES = 265,
-    QVD_D1_BYTES = 38,     /* a subframe */
-    QVD_D1_DATA_BYTES = 28 /* its information bits */
+    QVD_D1_BYTES = 38,      /* a subframe */
+    QVD_D1_DATA_BYTES = 28, /* its information bits */
+    QVD_CNAV1_BYTES = 75,   /* a subframe 2 */
+    QVD_CNAV1_FIELDS_BYTES = 248 /* its 31 fields */
 };
 
 /* What the functions answer. */
@@ -69,26 +72,39 @@ enum {
     QVD_TYPE = 8,           /* type is not 1, 2, 4, 6, 7 or 63 */
     QVD_PARTS_END = 9,      /* types 6, 7: parts end after bit 462 */
     QVD_EPOCH = 10,         /* an epoch above 86399 */
-    QVD_SLOT = 11,          /* a slot above 255; Slot_S 0 or above 255; a row asked for slot 0 or above 255 */
+    QVD_SLOT = 11,          /* a slot above 255; Slot_S 0 or above 255; a row asked for slot 0 or above 255; joining: PRN not 1 to 63 */
     QVD_TWICE = 12,         /* one slot twice among orbit records, or among type 7 clock records */
                             /* 13 is given no more: a mask may have bits set in 175 to 255 */
     QVD_MASK = 14,          /* no mask in force, or its IOD SSR or IODP differ */
     QVD_PLACE = 15,         /* type 4: no satellite has the sub-type's first place */
     QVD_FIELD = 16,         /* writing: a field exceeds its width, or no URA code gives the quarters; flags above 63 */
-    QVD_ISSUE = 17,         /* an issue is neither 0 to 1023 nor 65535 */
+    QVD_ISSUE = 17,         /* an issue is neither 0 to 1023 nor 65535; joining: also an IODC above 1023 */
     QVD_NO_ROW = 18,        /* the slot does not qualify */
     QVD_LAST_PLACE = 19,    /* type 6: no satellite has the last place from Slot_S on */
     QVD_D1_LENGTH = 31,     /* subframe not 38 bytes, its information not 28, a subframe's last four bits not zero */
     QVD_D1_PREAMBLE = 32,   /* preamble is not 11100010010 */
     QVD_D1_FRAID = 33,      /* FraID is not 1 to 5 */
     QVD_D1_SOW = 34,        /* SOW is above 604799 */
+    QVD_CNAV1_LENGTH = 35,  /* B-CNAV1 subframe 2 not 75 bytes */
+    QVD_CNAV1_CHECK = 36,   /* its check bits wrong */
+    QVD_CNAV1_HOUR = 37,    /* its HOW is above 167 */
     QVD_CHANGED = 38,       /* a frame that is checked has other message symbols than its message */
-    QVD_LENGTH = 39         /* a ledger, contents, rows, verdicts or details of another length than here */
+    QVD_LENGTH = 39         /* a ledger, contents, rows, verdicts, details or fields of another length than here */
 };
 
 enum { QVD_NO_ISSUE = 65535 };
 enum { QVD_BEIDOU = 1, QVD_GPS = 2, QVD_GALILEO = 3, QVD_GLONASS = 4 };
 enum { QVD_URA_UNKNOWN = 0, QVD_URA_QUARTERS = 1, QVD_URA_ABOVE = 2 };
+
+/* The fields of a B-CNAV1 subframe 2 in the interface document's order. */
+enum {
+    QVD_CNAV1_WN, QVD_CNAV1_HOW, QVD_CNAV1_IODC, QVD_CNAV1_IODE,
+    QVD_CNAV1_TOE, QVD_CNAV1_SATTYPE, QVD_CNAV1_DA, QVD_CNAV1_ADOT, QVD_CNAV1_DN0, QVD_CNAV1_DN0DOT,
+    QVD_CNAV1_M0, QVD_CNAV1_E, QVD_CNAV1_OMEGA, QVD_CNAV1_OMEGA0, QVD_CNAV1_I0, QVD_CNAV1_OMEGADOT,
+    QVD_CNAV1_I0DOT, QVD_CNAV1_CIS, QVD_CNAV1_CIC, QVD_CNAV1_CRS, QVD_CNAV1_CRC, QVD_CNAV1_CUS,
+    QVD_CNAV1_CUC, QVD_CNAV1_TOC, QVD_CNAV1_A0, QVD_CNAV1_A1, QVD_CNAV1_A2, QVD_CNAV1_TGDB2AP,
+    QVD_CNAV1_ISCB1CD, QVD_CNAV1_TGDB1CP, QVD_CNAV1_REV, QVD_CNAV1_FIELDS
+};
 
 /* Forms. All numbers are high byte first; those marked s are in two's
  * complement. Offsets and sizes are in bytes.
@@ -134,7 +150,13 @@ enum { QVD_URA_UNKNOWN = 0, QVD_URA_QUARTERS = 1, QVD_URA_ABOVE = 2 };
  * are sent, high bit first, then four zero bits. Its information, 28 bytes: the
  * 26 information bits of the first word and the 22 of each other, 224 in all,
  * high bit first. Preamble, FraID and SOW are bits 1 to 11, 16 to 18 and 19 to 38
- * of these. */
+ * of these.
+ *
+ * A subframe 2 of B-CNAV1, 75 bytes: its 600 bits before the coding, high bit
+ * first, the last 24 of them the check. Its fields, 248 bytes: 31 raw numbers of 8
+ * bytes, s, field QVD_CNAV1_.. at 8 times its number. WN, HOW, IODC, IODE, toe,
+ * SatType, e, toc and Rev have no sign in the subframe; the others are negative
+ * where their highest bit is set. Rev is given as it is sent. */
 
 /* Makes the n bytes a fresh ledger for a PRN, whatever they held. 4, 39. */
 uint8_t qvd_open(uint8_t *ledger, size_t n, uint8_t prn);
@@ -229,6 +251,14 @@ uint8_t qvd_d1_read(const uint8_t *subframe, size_t m, uint8_t *data, size_t k);
 /* Writes the subframe of information of k bytes, QVD_D1_DATA_BYTES, into a room
  * of m bytes, QVD_D1_BYTES. 31 to 34. */
 uint8_t qvd_d1_write(const uint8_t *data, size_t k, uint8_t *subframe, size_t m);
+
+/* Reads the fields of a B-CNAV1 subframe 2 of m bytes, QVD_CNAV1_BYTES, into a room
+ * of k bytes, QVD_CNAV1_FIELDS_BYTES. 35 to 37, 39. */
+uint8_t qvd_read_cnav1(const uint8_t *subframe, size_t m, uint8_t *fields, size_t k);
+
+/* Puts the IODC that BeiDou satellite prn sends into an issue list of k entries,
+ * QVD_ISSUES: entry prn - 1 becomes the IODC, the others are left. 1, 11, 17. */
+uint8_t qvd_join_issue(uint16_t *issues, size_t k, uint16_t prn, uint16_t iodc);
 
 #ifdef __cplusplus
 }

@@ -1,4 +1,4 @@
-/* Makes many messages, frames, logs, contents and subframes from a fixed seed,
+/* Makes many messages, frames, logs, contents, subframes and issue lists from a fixed seed,
  * good and damaged, hands them to the library and to the independent
  * implementation, and compares verdicts and what they give beside their number,
  * the pieces of torn logs, contents, written bytes, made frames, rows, and that
@@ -8,6 +8,7 @@
  *
  * Ends with a table of how often each refusal number was compared, and with
  * status 1 at any difference, or if a number came too seldom. */
+#include "cnav1.h"
 #include "forms.h"
 #include "quieuvodan.h"
 #include "ref.h"
@@ -86,11 +87,11 @@ static uint8_t *input_end, *message_end, *output_end, *ledger_end, *log_end, *ve
 
 enum call {
     OPEN, TAKE, TAKE_DETAIL, REPLAY, REPLAY_DETAIL, READ, READ_FRAME, READ_FRAME_DETAIL, WRITE, ROWS, ROW, D1_READ,
-    D1_WRITE, MAKE_FRAME, CHECK_FRAME, CALLS, NEXT_PIECE = CALLS /* this last one refuses nothing */
+    D1_WRITE, READ_CNAV1, JOIN_ISSUE, MAKE_FRAME, CHECK_FRAME, CALLS, NEXT_PIECE = CALLS /* this last one refuses nothing */
 };
 static const char *const call_name[CALLS + 1] = {
     "open", "take", "take_detail", "replay", "replay_detail", "read", "read_frame", "read_frame_detail", "write", "rows",
-    "row", "d1_read", "d1_write", "make_frame", "check_frame", "next_piece"
+    "row", "d1_read", "d1_write", "read_cnav1", "join_issue", "make_frame", "check_frame", "next_piece"
 };
 
 enum { MOST_VERDICT = 40, WANTED = 500 };
@@ -98,6 +99,7 @@ static unsigned long tally[CALLS][MOST_VERDICT];
 static unsigned long comparisons, differences;
 static unsigned long lists_with_rows, rows_seen, masks_changed, frames_noise;
 static unsigned long rows_of_any_bytes, subframes_corrected, frames_read_back;
+static unsigned long fields_at_end[CNAV1_FIELDS][3]; /* of subframes that were taken: smallest, largest, all ones */
 static unsigned long pieces_compared, pieces_of_length[FRAME_BYTES + 1], overlaps_seen;
 
 /* What came beside the numbers 6 and 19. */
@@ -112,7 +114,7 @@ static struct {
     const uint16_t *issues;
     size_t issue_count;
     unsigned slot;
-    unsigned prn, flags;
+    unsigned prn, flags, iodc;
     const uint8_t *message; /* that a frame is checked against */
     size_t message_bytes;
     const uint8_t *log;    /* frames handed in so far, each with its length before it in two bytes */
@@ -148,6 +150,8 @@ static void print_case(const char *what)
         printf("  prn %u\n", now.prn);
     if (now.call == MAKE_FRAME)
         printf("  prn %u, flags %u\n", now.prn, now.flags);
+    if (now.call == JOIN_ISSUE)
+        printf("  prn %u, IODC %u\n", now.prn, now.iodc);
     if (now.message != NULL)
         print_bytes("message", now.message, now.message_bytes);
     if (now.input != NULL)
@@ -1808,6 +1812,153 @@ static void compare_subframes(unsigned long count)
     }
 }
 
+/* ---- subframe 2 of B-CNAV1, and its IODC joined into an issue list ---- */
+
+/* The bits of a field that are its smallest number, its largest, and all ones. */
+static int64_t field_end(int f, int which)
+{
+    int64_t all = (INT64_C(1) << cnav1_field[f].width) - 1, top = all / 2;
+    if (which == 2)
+        return f == CNAV1_HOW ? 167 : all;
+    if (cnav1_field[f].complement)
+        return which == 0 ? top + 1 : top;
+    return which == 0 ? 0 : f == CNAV1_HOW ? 167 : all;
+}
+
+static int64_t any_field(int f)
+{
+    uint64_t high = any32();
+    return (int64_t)((high << 32 | any32()) & ((UINT64_C(1) << cnav1_field[f].width) - 1));
+}
+
+/* Some field at one of its ends, or all of them, or none; HOW up to 167 or above. */
+static void some_fields(int64_t fields[CNAV1_FIELDS], bool good)
+{
+    unsigned way = below(10);
+    int end = (int)below(3), one = (int)below(CNAV1_FIELDS);
+    for (int f = 0; f < CNAV1_FIELDS; f++)
+        fields[f] = way == 0 || (way < 4 && f == one) || (way == 4 && chance(50)) ? field_end(f, end) : any_field(f);
+    if (fields[CNAV1_HOW] > 167 || chance(60))
+        fields[CNAV1_HOW] = below(168);
+    if (!good)
+        fields[CNAV1_HOW] = chance(30) ? 168 : between(168, 255);
+    else if (chance(10))
+        fields[CNAV1_HOW] = 167;
+}
+
+static void fields_to_bytes(uint8_t *bytes, const int64_t fields[CNAV1_FIELDS])
+{
+    for (int f = 0; f < CNAV1_FIELDS; f++)
+        for (int i = 0; i < 8; i++)
+            bytes[8 * f + i] = (uint8_t)((uint64_t)fields[f] >> (56 - 8 * i));
+}
+
+static void compare_cnav1(const uint8_t *bytes, size_t n, size_t room)
+{
+    uint8_t *input = input_end - n, *lent_room = lend(room);
+    int64_t fields[CNAV1_FIELDS];
+    unsigned library, reference = 39;
+
+    memcpy(input, bytes, n);
+    now.call = READ_CNAV1;
+    now.input = input;
+    now.input_bytes = n;
+    library = qvd_read_cnav1(input, n, lent_room, room);
+    if (room == QVD_CNAV1_FIELDS_BYTES) {
+        reference = ref_read_cnav1(fields, bytes, n);
+        if (reference == 0)
+            fields_to_bytes(lent.should + MARGIN, fields);
+    }
+    same_verdict(READ_CNAV1, library, reference);
+    lent_is_right("fields");
+    same_bytes("the input afterwards", input, bytes, n);
+    if (reference != 0)
+        return;
+    for (int f = 0; f < CNAV1_FIELDS; f++)
+        for (int end = 0; end < 3; end++)
+            fields_at_end[f][end] +=
+                ((uint64_t)fields[f] & ((UINT64_C(1) << cnav1_field[f].width) - 1)) == (uint64_t)field_end(f, end);
+}
+
+static void compare_cnav1_subframes(unsigned long count)
+{
+    uint8_t bytes[256];
+    int64_t fields[CNAV1_FIELDS];
+
+    begin("B-CNAV1 subframe");
+    now.issues = NULL;
+    for (unsigned long i = 0; i < count; i++) {
+        size_t n = CNAV1_BYTES, room = QVD_CNAV1_FIELDS_BYTES;
+
+        now.number = i;
+        any_bytes(bytes, sizeof bytes);
+        some_fields(fields, chance(85));
+        ref_write_cnav1(bytes, fields);
+        if (chance(5))
+            flip_bits(bytes, 576, 599, 1);
+        else if (chance(8))
+            flip_bits(bytes, 0, 599, 1 + below(chance(50) ? 3 : 40));
+        else if (chance(3))
+            any_bytes(bytes, CNAV1_BYTES);
+        else if (chance(1))
+            memset(bytes, chance(50) ? 0 : 255, CNAV1_BYTES);
+        if (chance(5))
+            n = chance(50) ? CNAV1_BYTES - 1 + 2 * below(2) : below(200);
+        if (chance(5))
+            room = chance(50) ? QVD_CNAV1_FIELDS_BYTES - 1 + 2 * below(2) : below(600);
+        compare_cnav1(bytes, n, room);
+    }
+}
+
+/* Joins an IODC into a list of n entries, which then is what it became. */
+static void compare_join(uint16_t *list, size_t n, unsigned prn, unsigned iodc)
+{
+    uint8_t *lent_room = lend(2 * n);
+    unsigned library, reference;
+
+    memcpy(lent_room, list, 2 * n);
+    now.call = JOIN_ISSUE;
+    now.issues = list;
+    now.issue_count = n;
+    now.prn = prn;
+    now.iodc = iodc;
+    library = qvd_join_issue((uint16_t *)(void *)lent_room, n, (uint16_t)prn, (uint16_t)iodc);
+    reference = ref_join_issue(list, n, prn, iodc);
+    memcpy(lent.should + MARGIN, list, 2 * n);
+    same_verdict(JOIN_ISSUE, library, reference);
+    lent_is_right("issues");
+}
+
+static void compare_joins(unsigned long count)
+{
+    static uint16_t list[300];
+
+    begin("joined issue");
+    now.input = NULL;
+    for (unsigned long i = 0; i < count; i++) {
+        size_t n = chance(94) ? SLOTS : chance(60) ? SLOTS - 1 + 2 * below(2) : below(300);
+
+        if (i % 40 == 0)
+            for (int k = 0; k < 300; k++)
+                list[k] = (uint16_t)(chance(30) ? NO_ISSUE : chance(5) ? LAST_ISSUE : below(LAST_ISSUE + 1));
+        now.number = i;
+        for (int joins = 0; joins < 3; joins++) {
+            unsigned prn = chance(90) ? between(1, 63) : chance(40) ? 64 * below(2) : below(65536);
+            unsigned iodc = chance(90) ? below(1024) : chance(40) ? 1023 + below(2) : chance(30) ? 65535 : below(65536);
+            compare_join(list, n, prn, iodc);
+        }
+        if (n > 0 && chance(20)) {
+            size_t at = chance(40) ? n - 1 : below((unsigned)n);
+            uint16_t was = list[at];
+            list[at] = (uint16_t)(chance(40) ? 1024 : chance(40) ? 65534 : between(1024, 65534));
+            compare_join(list, n, between(1, 63), below(1024));
+            compare_join(list, n, chance(50) ? 64 : 0, below(1024));
+            list[at] = was;
+        }
+    }
+    now.issues = NULL;
+}
+
 /* ---- frames made from messages, and checked against them ---- */
 
 /* A length that is right, one near it, that of the other of the two, or any. */
@@ -2000,6 +2151,8 @@ static const uint8_t gives[CALLS][16] = {
     [ROW] = { 1, 11, 17, 18 },
     [D1_READ] = { 31, 32, 33, 34 },
     [D1_WRITE] = { 31, 32, 33, 34 },
+    [READ_CNAV1] = { 35, 36, 37, 39 },
+    [JOIN_ISSUE] = { 1, 11, 17 },
     [MAKE_FRAME] = { 1, 2, 4, 16 },
     [CHECK_FRAME] = { 1, 2, 3, 6, 38 },
 };
@@ -2090,6 +2243,13 @@ static bool too_few(void)
                        tally[c][gives[c][i]]);
                 few = true;
             }
+    for (int f = 0; f < CNAV1_FIELDS; f++)
+        for (int end = 0; end < 3; end++)
+            if (fields_at_end[f][end] < WANTED) {
+                printf("compare: %s of B-CNAV1 was at its end %d only %lu times\n", cnav1_field[f].name, end,
+                       fields_at_end[f][end]);
+                few = true;
+            }
     for (unsigned n = 0; n <= FRAME_BYTES; n++)
         if (pieces_of_length[n] < 20) {
             printf("compare: a piece of %u bytes came only %lu times\n", n, pieces_of_length[n]);
@@ -2142,6 +2302,8 @@ int main(int argc, char **argv)
     compare_frames(400 * percent);
     compare_writes(800 * percent);
     compare_subframes(600 * percent);
+    compare_cnav1_subframes(300 * percent);
+    compare_joins(100 * percent);
     compare_made(100 * percent);
     compare_pieces(40 * percent);
     begin("log");

@@ -2,6 +2,7 @@
  * implementation. With it the comparison can be run against itself, its power
  * to find faults can be tried (see mutants), and the benchmark has its second
  * contender. */
+#include "cnav1.h"
 #include "forms.h"
 #include "quieuvodan.h"
 #include "ref.h"
@@ -14,6 +15,8 @@ _Static_assert((int)ROW_FORM_BYTES == (int)QVD_ROW_BYTES, "one row form");
 _Static_assert((int)CONTENTS_FORM_BYTES == (int)QVD_CONTENTS_BYTES, "one contents form");
 _Static_assert((int)SUBFRAME_BYTES == (int)QVD_D1_BYTES, "one length of subframes");
 _Static_assert((int)SUBFRAME_DATA_BYTES == (int)QVD_D1_DATA_BYTES, "one length of their information");
+_Static_assert((int)CNAV1_BYTES == (int)QVD_CNAV1_BYTES, "one length of B-CNAV1 subframes");
+_Static_assert(8 * (int)CNAV1_FIELDS == (int)QVD_CNAV1_FIELDS_BYTES, "one length of their fields");
 
 static void store(uint8_t *bytes, const struct ledger *ledger)
 {
@@ -204,4 +207,22 @@ uint8_t qvd_d1_read(const uint8_t *subframe, size_t m, uint8_t *data, size_t k)
 uint8_t qvd_d1_write(const uint8_t *data, size_t k, uint8_t *subframe, size_t m)
 {
     return ref_write_subframe(subframe, m, data, k);
+}
+
+uint8_t qvd_read_cnav1(const uint8_t *subframe, size_t m, uint8_t *fields, size_t k)
+{
+    int64_t read[CNAV1_FIELDS];
+    uint8_t refusal;
+    if (k != QVD_CNAV1_FIELDS_BYTES)
+        return 39;
+    refusal = ref_read_cnav1(read, subframe, m);
+    if (refusal == 0)
+        for (int i = 0; i < 8 * CNAV1_FIELDS; i++)
+            fields[i] = (uint8_t)((uint64_t)read[i / 8] >> (56 - 8 * (i % 8)));
+    return refusal;
+}
+
+uint8_t qvd_join_issue(uint16_t *issues, size_t k, uint16_t prn, uint16_t iodc)
+{
+    return ref_join_issue(issues, k, prn, iodc);
 }

@@ -2,4 +2,5 @@ pub mod Size
 pub mod Detail
 pub mod Boundary
 pub mod D1
+pub mod Cnav1
 pub mod Make

@@ -13,16 +13,19 @@ ghost use Rattle.list.specs.Rows.{foundCount, listIn};
 ghost use Rattle.boundary.specs.Size.{contentsSize, rowSize};
 ghost use Rattle.boundary.specs.Detail.{detailIn};
 ghost use Rattle.boundary.specs.D1.{d1ReadAnswer, d1ReadRoom, d1WriteAnswer, d1WriteRoom};
+ghost use Rattle.boundary.specs.Cnav1.{cnav1Answer, cnav1Room, joinAnswer, joinRoom};
 ghost use Rattle.boundary.specs.Make.{makeAnswer, checkAnswer};
 ghost use Rattle.boundary.specs.Boundary.{openAnswer, openRoom, takeAnswer, takeRoom, verdictsOf, replayRefusal, replayAnswer, replayLedger, replayVerdicts, answerBytes, rowsBytes, rowsAnswer, rowsRoom, rowAnswer, rowRoom, readingRoom, readAnswer, readRoom, frameAnswer, frameRoom, writeAnswer, writeRoom};
 use d1_subframes::read_subframe;
 use d1_subframes::write_subframe;
 use flat_forms::put_contents;
 use flat_forms::put_row;
+use flat_subframe2::read_fields;
 use frame::is_prn;
 use frame::read_frame;
 use from_flat::contents_of;
 use issues::issues_refusal;
+use joining::join;
 use ledger::open::make_fresh;
 use ledger::replay::frame_count;
 use ledger::replay::take_nth;
@@ -349,6 +352,24 @@ pub extern "C" fn qvd_d1_write(information: &[u8], subframe: &mut [u8]) -> u8
     ensures bytes { λ r. ⌜ now (subframe .exit) ≡ d1WriteRoom (now (information .entry)) (now (subframe .entry)) ⌝ }
 {
     number_of(write_subframe(subframe, information))
+}
+
+// The fields of a B-CNAV1 subframe 2, eight bytes each; on a refusal the room is as it was. 35 to 37, 39.
+#[no_mangle]
+pub extern "C" fn qvd_read_cnav1(subframe: &[u8], fields: &mut [u8]) -> u8
+    ensures answer { λ r. ⌜ r ≡ cnav1Answer (now (subframe .entry)) (now (fields .entry)) ⌝ }
+    ensures bytes { λ r. ⌜ now (fields .exit) ≡ cnav1Room (now (subframe .entry)) (now (fields .entry)) ⌝ }
+{
+    number_of(read_fields(fields, subframe))
+}
+
+// The IODC of a BeiDou satellite is put into the broadcast list; on a refusal the list is as it was. 1, 11, 17.
+#[no_mangle]
+pub extern "C" fn qvd_join_issue(issues: &mut [u16], prn: u16, iodc: u16) -> u8
+    ensures answer { λ r. ⌜ r ≡ joinAnswer (now (issues .entry)) prn iodc ⌝ }
+    ensures entries { λ r. ⌜ now (issues .exit) ≡ joinRoom (now (issues .entry)) prn iodc ⌝ }
+{
+    number_of(join(issues, prn, iodc))
 }
 
 // The bytes of the next piece of a log: a frame that is found, or what stands before it.
