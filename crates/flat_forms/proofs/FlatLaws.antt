@@ -60,9 +60,9 @@ pub orbit-same : (s i o : ℕ) {r r′ a a′ c c′ k k′ q q′ : ℕ} → r 
 orbit-same s i o r a c k q = rw (r, a, c, k, q)
 
 -- a list of n bytes is the row of its n bytes
-row-whole : (r : List ℕ) (n : ℕ) → length r ≡ n → rowAt r 0 n ≡ r
+bytes-whole : (r : List ℕ) (n : ℕ) → length r ≡ n → rowAt r 0 n ≡ r
 unfolding rowAt
-row-whole r n e = table-ext _ (λ (i : ℕ). getD r i 0) n (λ i h. ap (λ (j : ℕ). getD r j 0) (zero-add i)) ∙ table-same r n 0 e
+bytes-whole r n e = table-ext _ (λ (i : ℕ). getD r i 0) n (λ i h. ap (λ (j : ℕ). getD r j 0) (zero-add i)) ∙ table-same r n 0 e
 
 -- ---- the parts one after the other
 pub mask-two : (s : List ℕ) (kind : ℕ) (m : MaskPart) → length (m .bytes) ≡ 32
@@ -70,7 +70,7 @@ pub mask-two : (s : List ℕ) (kind : ℕ) (m : MaskPart) → length (m .bytes) 
 unfolding flatMaskBytes
 mask-two s kind m long =
     let head = maskHead kind (m .epoch) (m .ssr) (m .iodp) in
-    ap (storeAt (storeAt s 0 head) 7) (sym (row-whole (m .bytes) 32 long)) ∙ store-two s 0 7 head (rowAt (m .bytes) 0 32) refl
+    ap (storeAt (storeAt s 0 head) 7) (sym (bytes-whole (m .bytes) 32 long)) ∙ store-two s 0 7 head (rowAt (m .bytes) 0 32) refl
 
 pub clocks-two : (s : List ℕ) (p : ClockPart) → storeAt (storeAt s 39 (clockHead (p .epoch) (p .ssr) (p .iodp) (p .start) (p .count))) 48 (rowsTo (flatClockRow (p .clocks)) 23) ≡ storeAt s 39 (clocksBytes p)
 unfolding clocksBytes

@@ -1,4 +1,6 @@
 use borrow.Author.Needs.{needs}
+use mathlib.Core.Path.{_≡_}
+use lib.ListN.{length}
 use Rattle.flat_forms.proofs.FlatLaws.{mask-two}
 use Rattle.flat_forms.proofs.put_mask_part.Statement.{statement}
 use Rattle.flat_forms.proofs.put_mask_part.Tie as tie
@@ -22,7 +24,11 @@ same-length : tie.Need-same-length
 same-length c = search needs
 
 returns : tie.Need-returns
-returns c = ?
+returns c =
+    let m = c .before .before .before .before .before .before .before .before .before .before .before in
+    let a = m .before .before .args in
+    let long : length (a .m .bytes) ≡ 32 = let g = m .before .before .good in search needs in
+    rw (c .before .before .store2 .ensures, c .before .before .before .before .before .before .before .store .ensures, m .mask-head .ensures) (mask-two (a .room .now) (a .kind) (a .m) long)
 
 pub put-mask-part-spec : {M : Type 1} → statement M
 put-mask-part-spec =
