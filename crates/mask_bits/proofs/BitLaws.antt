@@ -51,6 +51,9 @@ slot-bit s slot p q =
     let e : 32 + (slot - 1) ≡ 31 + slot = omega arith in
     rw (ne-eqb slot 0 (λ z. omega arith)) (bit-at s (slot - 1) (omega arith) ∙ rw e)
 
+pub slot-none : (bits : List Bool) (slot : ℕ) → slot ≡ 0 → false ≡ bitAtSlot bits slot
+slot-none bits slot e = rw (eq-eqb slot 0 e)
+
 -- what is left of a mask from entry i on: w bits, and what is left from entry i + w on
 pub mask-many : (s : List ℕ) (at i w : ℕ) → i + w ≤ 255 → drop i (maskBitsAt s at) ≡ table (maskBitAt s (at + i)) w ++ drop (i + w) (maskBitsAt s at)
 unfolding maskBitsAt

@@ -14,7 +14,11 @@ returns : tie.Need-returns
 returns c = let l = c .before .issues-refusal .ensures in sym (join-1 _ _ _ (sym l ∙ c .if1 .taken))
 
 returns-2 : tie.Need-returns-2
-returns-2 c = let l = c .before .before .issues-refusal .ensures in sym (join-11 _ _ _ (λ e. c .before .if1 .left (l ∙ e)) (c .if2 .taken))
+returns-2 c =
+    let i = c .before .before in
+    let a = i .before .before .args in
+    let p : ltb (a .prn) 1 || ltb 63 (a .prn) ≡ true = c .if2 .taken in
+    sym (join-11 _ _ _ (λ e. c .before .if1 .left (i .issues-refusal .ensures ∙ e)) p)
 
 returns-3 : tie.Need-returns-3
 returns-3 c =

@@ -1,14 +1,16 @@
 -- Slot 0 has none.
-use borrow.Author.Tests.{eq-eqb}
 use borrow.Author.Needs.{needs}
 use native.Mathlib.Omega.{arith}
 use mathlib.Core.Path.{sym}
-use Rattle.mask_bits.proofs.BitLaws.{slot-bit}
+use Rattle.mask_bits.specs.Bits.{bitsAt}
+use Rattle.mask_bits.proofs.BitLaws.{slot-bit, slot-none}
 use Rattle.mask_bits.proofs.has_bit.Statement.{statement}
 use Rattle.mask_bits.proofs.has_bit.Tie as tie
 
 returns : tie.Need-returns
-returns c = rw (eq-eqb _ _ (c .if1 .taken))
+returns c =
+    let a = c .before .before .args in
+    slot-none (bitsAt (a .t .now)) (a .slot .0) (c .if1 .taken)
 
 cast-bit : tie.Need-cast-bit
 cast-bit c = search needs
