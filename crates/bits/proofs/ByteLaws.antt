@@ -1,15 +1,15 @@
 -- Laws of bytes stored into a room, of what is kept, and of a row of bytes.
-use mathlib.Core.Path.{_≡_, refl, _∙_}
+use mathlib.Core.Path.{_≡_, refl, ap, _∙_}
 use mathlib.Core.Logic.{_⊎_, inl, inr, ⊎-elim}
 use Prim.Native.Nat.{ℕ, zero, suc, _+_, _≤_, _<_}
 use mathlib.Core.List.{List, [], _∷_}
 use lib.ListN.{getD, set, length, drop, length-set, drop-of-length-le}
 use lib.Seq.{ext-getD, getD-set-same, getD-set-other, drop-cons}
-use native.Mathlib.Nat.{not-suc-le-zero, add-zero}
+use native.Mathlib.Nat.{not-suc-le-zero, zero-add, add-zero}
 use native.Mathlib.Numerals.{add-one}
 use native.Mathlib.Omega.{arith}
 use Rattle.bits.specs.Bytes.{storeAt, Kept, rowAt}
-use Rattle.bits.proofs.TableLaws.{length-table, getD-table, table-ext}
+use Rattle.bits.proofs.TableLaws.{length-table, getD-table, table-ext, table-same}
 
 pub store-step : (s : List ℕ) (at : ℕ) (r : List ℕ) (i : ℕ) → i < length r → storeAt s (at + i) (drop i r) ≡ storeAt (set s (at + i) (getD r i 0)) (at + (i + 1)) (drop (i + 1) r)
 unfolding storeAt
@@ -68,3 +68,8 @@ pub row-store : (s : List ℕ) (at : ℕ) (r : List ℕ) → at + length r ≤ l
 row-store s at r l =
     ext-getD 0 _ r (length-row (storeAt s at r) at (length r))
     (λ i h. let g : i < length r = omega (arith, length-row (storeAt s at r) at (length r)) in getD-row (storeAt s at r) at (length r) i g ∙ store-in s at r i l g)
+
+-- a list of n bytes is the row of its n bytes
+pub bytes-whole : (r : List ℕ) (n : ℕ) → length r ≡ n → rowAt r 0 n ≡ r
+unfolding rowAt
+bytes-whole r n e = table-ext _ (λ (i : ℕ). getD r i 0) n (λ i h. ap (λ (j : ℕ). getD r j 0) (zero-add i)) ∙ table-same r n 0 e

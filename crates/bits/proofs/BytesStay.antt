@@ -1,15 +1,17 @@
--- Bytes stay bytes, whatever bits are put into them.
+-- Bytes stay bytes, whatever bits are put into them, and are equal where their bits are.
+use mathlib.Core.Path.{_≡_, sym, _∙_}
 use mathlib.Core.Logic.{dite}
-use Prim.Native.Nat.{ℕ, zero, suc, _+_, _-_, _/_, _%_, _<_}
+use Prim.Native.Nat.{ℕ, zero, suc, _+_, _-_, _*_, _/_, _%_, _<_}
 use mathlib.Core.List.{List, [], _∷_}
 use native.Mathlib.Decide.{decLt, ℕ-discrete}
 use native.Mathlib.Omega.{arith}
 use lib.Dec.{lit<}
 use lib.ListN.{getD, set, length, replicate}
-use lib.Seq.{getD-set-same, getD-set-other, set-out}
-use Rattle.bits.specs.Bits.{setBit, putAt, putsAt}
+use lib.Seq.{ext-getD, getD-set-same, getD-set-other, set-out}
+use Rattle.bits.specs.Bits.{bitAt, setBit, putAt, putsAt}
 use Rattle.bits.specs.Bytes.{Bytes}
-use Rattle.bits.proofs.PutLaws.{byte-lt}
+use Rattle.bits.proofs.PutLaws.{byte-lt, field-ext}
+use Rattle.bits.proofs.WindowLaws.{byte-field}
 
 set-bytes : (s : List ℕ) (i v : ℕ) → Bytes s → v < 256 → Bytes (set s i v)
 set-bytes s i v b h j =
@@ -37,3 +39,9 @@ pub zero-bytes : (n : ℕ) → Bytes (replicate n 0)
 zero-bytes zero j = lit< tt
 zero-bytes (suc n) zero = lit< tt
 zero-bytes (suc n) (suc j) = zero-bytes n j
+
+-- bytes of equal bits are equal
+pub bytes-ext : (s t : List ℕ) → Bytes s → Bytes t → length s ≡ length t → ((j : ℕ) → j < 8 * length s → bitAt s j ≡ bitAt t j) → s ≡ t
+bytes-ext s t hs ht l e =
+    ext-getD 0 s t l
+    (λ j h. sym (byte-field s j (hs j)) ∙ field-ext s t (8 * j) 8 (λ k g. e (8 * j + k) (omega arith)) ∙ byte-field t j (ht j))

@@ -4,7 +4,7 @@ use Prim.Native.Nat.{ℕ, zero, suc, _+_, _-_, _*_, _/_, _%_, _^_, _≤_, _<_}
 use mathlib.Core.List.{List}
 use lib.ListN.{getD, length, List·getD-eq-default}
 use lib.Pow.{pow-mono}
-use native.Mathlib.Nat.{pow-suc, zero-div}
+use native.Mathlib.Nat.{add-zero, pow-suc, zero-div}
 use native.Mathlib.Numerals.{add-one}
 use native.Mathlib.Omega.{arith}
 use borrow.Author.Tests.{le-leb, lt-leb}
@@ -63,3 +63,8 @@ got-narrow w v s at n h k = got-field v s at n (omega arith) ∙ sym (got-field 
 -- and fits it
 pub got-lt : (w v : ℕ) (s : List ℕ) (at n : ℕ) → n ≤ w → w ≤ v → gotAt v s at n < 2 ^ w
 got-lt w v s at n h k = rw (got-field v s at n (omega arith)) (omega (arith, field-lt s at n, pow-mono {i = n} {j = w} h))
+
+-- a field of one bit is the bit
+pub one-bit : (s : List ℕ) (i : ℕ) → fieldAt s i 1 ≡ bitAt s i
+unfolding fieldAt
+one-bit s i = rw (add-zero i) (omega arith)

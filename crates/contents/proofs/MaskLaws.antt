@@ -3,31 +3,26 @@ use mathlib.Core.Path.{_≡_, refl, sym, ap, _∙_}
 use mathlib.Core.Logic.{dite}
 use mathlib.Core.List.{List}
 use Prim.Native.Nat.{ℕ, _+_, _-_, _*_, _/_, _%_, _^_, _≤_, _<_}
-use native.Mathlib.Nat.{zero-add, add-zero, div-div-eq-div-mul, div-one, zero-div}
+use native.Mathlib.Nat.{zero-add, div-div-eq-div-mul, div-one, zero-div}
 use native.Mathlib.Decide.{decLt}
 use native.Mathlib.Omega.{arith}
 use lib.Dec.{eqb}
 use lib.ListN.{getD, length, List·getD-eq-default}
 use lib.Pow.{pow-add}
-use lib.Seq.{ext-getD}
 use borrow.Author.Tests.{lt-ltb, le-ltb}
 use Rattle.bits.specs.Bits.{bitAt, fieldAt}
+use Rattle.bits.specs.Bytes.{Bytes}
 use Rattle.bits.specs.Table.{table}
-use Rattle.bits.proofs.FieldLaws.{field-lt}
-use Rattle.bits.proofs.PutLaws.{field-ext}
+use Rattle.bits.proofs.FieldLaws.{field-lt, one-bit}
+use Rattle.bits.proofs.BytesStay.{bytes-ext}
 use Rattle.bits.proofs.TableLaws.{length-table, getD-table, table-ext}
-use Rattle.bits.proofs.WindowLaws.{field-part, byte-field}
+use Rattle.bits.proofs.WindowLaws.{field-part}
 use Rattle.contents.specs.Parts.{maskByteAt, maskBytesAt, maskBitAt, maskBitsAt, bitsOf, noMask}
 
 -- a bit by its byte
 bit-open : (s : List ℕ) (i : ℕ) → bitAt s i ≡ getD s (i / 8) 0 / 2 ^ (7 - i % 8) % 2
 unfolding bitAt
 bit-open s i = refl
-
--- a field of one bit is the bit
-pub one-bit : (s : List ℕ) (i : ℕ) → fieldAt s i 1 ≡ bitAt s i
-unfolding fieldAt
-one-bit s i = rw (add-zero i) (omega arith)
 
 -- bit a of a field, with k bits after it
 bit-in-field : (s : List ℕ) (at a k : ℕ) → fieldAt s at (a + 1 + k) / 2 ^ k % 2 ≡ bitAt s (at + a)
@@ -53,7 +48,7 @@ none-byte j =
     (λ l. getD-table (λ (i : ℕ). 0) 32 j 0 l)
     (λ n. List·getD-eq-default zeros 0 (omega (arith, l32)))
 
-pub none-small : (j : ℕ) → getD (noMask .bytes) j 0 < 256
+pub none-small : Bytes (noMask .bytes)
 none-small j = rw (none-byte j) (omega arith)
 
 pub none-bit : (i : ℕ) → bitAt (noMask .bytes) i ≡ 0
@@ -85,7 +80,7 @@ module _ (s : List ℕ) (at : ℕ) where
       (λ l. rw (eight j l) (field-lt s (at + 8 * j) 8))
       (λ n. rw (seven j (omega arith)) (omega (arith, field-lt s (at + 8 * j) 7)))
 
-  pub bytes-small : (j : ℕ) → getD (maskBytesAt s at) j 0 < 256
+  pub bytes-small : Bytes (maskBytesAt s at)
   bytes-small j =
       dite (decLt j 32)
       (λ l. rw (mask-byte j l) (byte-small j))
@@ -131,13 +126,10 @@ module _ (s : List ℕ) (at : ℕ) where
   mask-as-before = table-ext (maskBitAt (maskBytesAt s at) 0) (maskBitAt s at) 255 (λ i h. ap (λ (b : ℕ). eqb b 1) (ap (bitAt (maskBytesAt s at)) (zero-add i) ∙ mask-bit i h))
 
   -- 32 bytes whose last bit is 0 are read back where their bits stand
-  pub bytes-back : (bytes : List ℕ) → length bytes ≡ 32 → ((j : ℕ) → getD bytes j 0 < 256) → bitAt bytes 255 ≡ 0
+  pub bytes-back : (bytes : List ℕ) → length bytes ≡ 32 → Bytes bytes → bitAt bytes 255 ≡ 0
       → ((i : ℕ) → i < 255 → bitAt s (at + i) ≡ bitAt bytes i) → maskBytesAt s at ≡ bytes
   bytes-back bytes long small last same =
       let m = maskBytesAt s at in
       let bit : (i : ℕ) → i < 256 → bitAt m i ≡ bitAt bytes i =
       λ i h. dite (decLt i 255) (λ l. mask-bit i l ∙ same i l) (λ n. let e : i ≡ 255 = omega arith in ap (bitAt m) e ∙ mask-last ∙ sym last ∙ sym (ap (bitAt bytes) e)) in
-      ext-getD 0 m bytes (omega (arith, bytes-long))
-      (λ j h.
-      let l : j < 32 = omega (arith, bytes-long) in
-      sym (byte-field m j (bytes-small j)) ∙ field-ext m bytes (8 * j) 8 (λ k g. bit (8 * j + k) (omega arith)) ∙ byte-field bytes j (small j))
+      bytes-ext m bytes bytes-small small (omega (arith, bytes-long)) (λ i h. bit i (omega (arith, bytes-long)))

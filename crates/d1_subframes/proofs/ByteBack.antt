@@ -7,14 +7,11 @@ use native.Mathlib.Nat.{not-suc-le-zero}
 use native.Mathlib.Decide.{decLt}
 use native.Mathlib.Omega.{arith}
 use lib.ListN.{getD, length}
-use lib.Seq.{ext-getD}
 use Rattle.bits.specs.Bits.{bitAt, fieldAt, fieldsAt, putsAt, total, Within}
 use Rattle.bits.specs.Bytes.{Bytes}
 use Rattle.bits.proofs.FieldLaws.{bit-lt, field-lt}
-use Rattle.bits.proofs.PutLaws.{field-ext}
 use Rattle.bits.proofs.RowLaws.{length-puts, fields-puts}
-use Rattle.bits.proofs.WindowLaws.{byte-field}
-use Rattle.bits.proofs.BytesStay.{puts-bytes}
+use Rattle.bits.proofs.BytesStay.{puts-bytes, bytes-ext}
 
 -- equal fields have equal bits
 field-bits : (s t : List ℕ) (at n : ℕ) → fieldAt s at n ≡ fieldAt t at n → (k : ℕ) → k < n → bitAt s (at + k) ≡ bitAt t (at + k)
@@ -37,12 +34,6 @@ fields-bits s t at (w ∷ ws) e j a b =
     let q : j ≡ at + (j - at) = omega arith in
     subst (λ (x : ℕ). bitAt s x ≡ bitAt t x) (sym q) (field-bits s t at w here (j - at) (omega arith)))
     (λ n. fields-bits s t (at + w) ws rest j (omega arith) (omega arith))
-
--- bytes of equal bits are equal
-pub bytes-ext : (s t : List ℕ) → Bytes s → Bytes t → length s ≡ length t → ((j : ℕ) → j < 8 * length s → bitAt s j ≡ bitAt t j) → s ≡ t
-bytes-ext s t hs ht l e =
-    ext-getD 0 s t l
-    (λ j h. sym (byte-field s j (hs j)) ∙ field-ext s t (8 * j) 8 (λ k g. e (8 * j + k) (omega arith)) ∙ byte-field t j (ht j))
 
 -- the fields of a row are within their widths
 pub fields-within : (s : List ℕ) (at : ℕ) (ws : List ℕ) → Within ws (fieldsAt s at ws)

@@ -2,12 +2,10 @@
 use mathlib.Core.Path.{_≡_, refl, sym, ap, _∙_}
 use Prim.Native.Nat.{ℕ, _*_, _/_, _%_}
 use mathlib.Core.List.{List, [], _∷_, _++_}
-use lib.ListN.{getD, length, length-append}
+use lib.ListN.{length, length-append}
 use native.Mathlib.Omega.{arith}
-use native.Mathlib.Nat.{zero-add}
 use Rattle.bits.specs.Bytes.{storeAt, rowAt}
-use Rattle.bits.proofs.ByteLaws.{length-row}
-use Rattle.bits.proofs.TableLaws.{table-ext, table-same}
+use Rattle.bits.proofs.ByteLaws.{length-row, bytes-whole}
 use Rattle.records.specs.declared.orbit.Orbit.{Orbit}
 use Rattle.records.specs.declared.clock.Clock.{Clock}
 use Rattle.contents.specs.declared.parts.MaskPart.{MaskPart}
@@ -58,11 +56,6 @@ row-same slot number iodn corr s s′ ra ra′ al al′ cr cr′ ck ck′ k k′
 pub orbit-same : (s i o : ℕ) {r r′ a a′ c c′ k k′ q q′ : ℕ} → r ≡ r′ → a ≡ a′ → c ≡ c′ → k ≡ k′ → q ≡ q′ →
     _≡_ {A = List ℕ} (s / 256 ∷ s % 256 ∷ i / 256 ∷ i % 256 ∷ o ∷ r / 256 ∷ r % 256 ∷ a / 256 ∷ a % 256 ∷ c / 256 ∷ c % 256 ∷ k ∷ q / 65536 / 256 ∷ q / 65536 % 256 ∷ q % 65536 / 256 ∷ q % 65536 % 256 ∷ []) (s / 256 ∷ s % 256 ∷ i / 256 ∷ i % 256 ∷ o ∷ r′ / 256 ∷ r′ % 256 ∷ a′ / 256 ∷ a′ % 256 ∷ c′ / 256 ∷ c′ % 256 ∷ k′ ∷ q′ / 65536 / 256 ∷ q′ / 65536 % 256 ∷ q′ % 65536 / 256 ∷ q′ % 65536 % 256 ∷ [])
 orbit-same s i o r a c k q = rw (r, a, c, k, q)
-
--- a list of n bytes is the row of its n bytes
-bytes-whole : (r : List ℕ) (n : ℕ) → length r ≡ n → rowAt r 0 n ≡ r
-unfolding rowAt
-bytes-whole r n e = table-ext _ (λ (i : ℕ). getD r i 0) n (λ i h. ap (λ (j : ℕ). getD r j 0) (zero-add i)) ∙ table-same r n 0 e
 
 -- ---- the parts one after the other
 pub mask-two : (s : List ℕ) (kind : ℕ) (m : MaskPart) → length (m .bytes) ≡ 32

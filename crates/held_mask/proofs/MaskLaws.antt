@@ -14,8 +14,8 @@ use Rattle.bits.specs.Bits.{bitAt}
 use Rattle.bits.specs.Table.{table}
 use Rattle.bits.specs.Bytes.{storeAt, rowAt, Kept}
 use Rattle.bits.proofs.TestLaws.{both-hold}
-use Rattle.bits.proofs.TableLaws.{table-ext, table-same}
-use Rattle.bits.proofs.ByteLaws.{store-in, store-out, length-store, kept-trans, kept-store, length-row, getD-row}
+use Rattle.bits.proofs.TableLaws.{table-ext}
+use Rattle.bits.proofs.ByteLaws.{store-in, store-out, length-store, kept-trans, kept-store, length-row, getD-row, bytes-whole}
 use Rattle.contents.specs.Parts.{maskBitAt, maskBitsAt, bitsOf}
 use Rattle.contents.specs.declared.parts.MaskPart.{MaskPart}
 use Rattle.mask_bits.specs.Bits.{bitsAt}
@@ -64,12 +64,8 @@ same-refl m = rw (beq-refl (m .has), eq-eqb (m .ssr) (m .ssr) refl, eq-eqb (m .i
 
 -- ---- a mask kept
 pub mask-put : (s : List ℕ) (m : MaskPart) → length (m .bytes) ≡ 32 → putMask s m ≡ storeAt (storeAt s 4 (m .bytes)) 1 (1 ∷ m .ssr ∷ m .iodp ∷ [])
-unfolding putMask rowAt
-mask-put s m e =
-    let row : table (λ (i : ℕ). getD (m .bytes) (0 + i) 0) 32 ≡ m .bytes =
-    table-ext (λ (i : ℕ). getD (m .bytes) (0 + i) 0) (λ (i : ℕ). getD (m .bytes) i 0) 32 (λ i h. let z : 0 + i ≡ i = omega arith in rw z)
-    ∙ table-same (m .bytes) 32 0 e in
-    rw row
+unfolding putMask
+mask-put s m e = rw (bytes-whole (m .bytes) 32 e)
 
 -- only its bytes change
 pub mask-room : (s : List ℕ) (m : MaskPart) → Kept 1 36 s (putMask s m)

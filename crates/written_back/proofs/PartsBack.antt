@@ -12,7 +12,7 @@ use borrow.Author.Tests.{ne-eqb, lt-ltb, le-ltb}
 use Rattle.bits.specs.Pick.{pick}
 use Rattle.bits.specs.Bits.{bitAt, fieldAt, fieldsAt, putsAt, putRows, total, Within}
 use Rattle.bits.proofs.RowLaws.{fields-puts, rows-back, length-puts}
-use Rattle.bits.proofs.FieldLaws.{bit-lt}
+use Rattle.bits.proofs.FieldLaws.{bit-lt, one-bit}
 use Rattle.bits.proofs.TableLaws.{table-ext, table-same}
 use Rattle.records.specs.Orbit.{blankOrbit, orbitWidths, orbitOf}
 use Rattle.records.specs.Clock.{blankClock, clockWidths, clockOf}
@@ -22,7 +22,7 @@ use Rattle.layout.specs.declared.Layout.{Layout}
 use Rattle.contents.specs.declared.parts.MaskPart.{MaskPart}
 use Rattle.contents.specs.declared.parts.ClockPart.{ClockPart}
 use Rattle.contents.specs.declared.parts.OrbitPart.{OrbitPart}
-use Rattle.contents.proofs.MaskLaws.{one-bit, bytes-back}
+use Rattle.contents.proofs.MaskLaws.{bytes-back}
 use Rattle.layout.proofs.LayoutLaws.{from-some, clock-total}
 use Rattle.canonical.specs.Canon.{canonClockNth, canonClockRows, canonClocks, canonOrbitNth, canonOrbitRows, canonOrbits}
 use Rattle.writing.specs.Fits.{headVals, clockRow, orbitRow}

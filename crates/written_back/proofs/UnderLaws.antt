@@ -11,7 +11,7 @@ use native.Mathlib.Decide.{ℕ-discrete, decLt}
 use native.Mathlib.Omega.{arith}
 use Rattle.bits.specs.Pick.{pick}
 use Rattle.bits.specs.Bits.{bitAt, fieldAt, setBit, putAt, putsAt, putRows, total}
-use Rattle.bits.proofs.FieldLaws.{bit-lt}
+use Rattle.bits.proofs.FieldLaws.{bit-lt, one-bit}
 use Rattle.bits.proofs.PutLaws.{bit-set-same, bit-set-other}
 use Rattle.records.specs.Orbit.{orbitWidths}
 use Rattle.records.specs.Clock.{clockWidths}
@@ -19,7 +19,7 @@ use Rattle.layout.specs.Layout.{partWidths, orbitsFrom, endOf}
 use Rattle.contents.specs.Parts.{noMask, maskPartAt, maskIn, clocksIn, orbitsIn, layoutAt, contentsAt}
 use Rattle.layout.specs.declared.Layout.{Layout}
 use Rattle.contents.specs.declared.parts.MaskPart.{MaskPart}
-use Rattle.contents.proofs.MaskLaws.{one-bit, mask-bit, none-bit}
+use Rattle.contents.proofs.MaskLaws.{mask-bit, none-bit}
 use Rattle.layout.proofs.LayoutLaws.{pick-all, clock-total}
 use Rattle.canonical.specs.Canon.{layoutFor}
 use Rattle.canonical.proofs.CanonLaws.{layout-read}
