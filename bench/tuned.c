@@ -53,11 +53,13 @@ INLINE uint64_t be64(const uint8_t *p) { return __builtin_bswap64(load64(p)); }
  * that it was placed by, or 0 if it was named by its slot. A clock with a number
  * that is neither 0 nor that of the mask in force has been dropped: a mask that
  * differs from the one before it gets the next number, and that drops all clocks
- * that came by place at once. Entry 0 of both takes what blank records and filler
- * say, and is never looked at. */
+ * that came by place at once. The epochs stand beside the words. Entry 0 of both
+ * takes what blank records and filler say, and is never looked at. */
 enum {
     ORBIT_HELD = 8,
+    ORBIT_CORR = 51,     /* where the IOD Corr begins */
     CLOCK_BITS = 0x3FFFF,
+    CLOCK_CORR = 15,     /* where the IOD Corr begins */
     CLOCK_SSR = 18,      /* where the IOD SSR begins */
     CLOCK_HELD = 1 << 20,
     CLOCK_NUMBER = 22,   /* where the number begins */
@@ -75,6 +77,8 @@ struct ledger {
     uint8_t slot_at[280];  /* slot_at[n] has place n; at least 23 zeros follow the last */
     uint64_t orbit[256];
     uint64_t clock[256];
+    uint32_t orbit_epoch[256];
+    uint32_t clock_epoch[256];
 } __attribute__((packed, may_alias));
 
 _Static_assert(sizeof(struct ledger) <= QVD_LEDGER_BYTES, "the ledger fits its bytes");
@@ -436,6 +440,38 @@ static __attribute__((cold, noinline)) unsigned named_twice(const uint16_t *slot
     return 0;
 }
 
+/* What must be equal for a record to be held off by the one held: held, IOD SSR
+ * and IOD Corr; and it is then held off if its epoch is not less than half a day
+ * ahead, around the clock. A clock by place counts as held while its number is that
+ * of the mask in force. */
+#define ORBIT_ISSUE ((uint64_t)7 << ORBIT_CORR | 15)
+#define CLOCK_ISSUE ((uint64_t)7 << CLOCK_CORR | (uint64_t)3 << CLOCK_SSR | CLOCK_HELD)
+
+INLINE unsigned is_older(uint32_t held, uint32_t epoch)
+{
+    uint32_t ahead = epoch >= held ? epoch - held : epoch + (LAST_EPOCH + 1) - held;
+    return ahead >= (LAST_EPOCH + 1) / 2;
+}
+
+INLINE void keep_orbit(struct ledger *l, uint32_t slot, uint64_t word, uint32_t epoch)
+{
+    if (((l->orbit[slot] ^ word) & ORBIT_ISSUE) == 0 && is_older(l->orbit_epoch[slot], epoch))
+        return;
+    l->orbit[slot] = word;
+    l->orbit_epoch[slot] = epoch;
+}
+
+INLINE void keep_clock(struct ledger *l, uint32_t slot, uint64_t word, uint32_t epoch)
+{
+    uint64_t held = l->clock[slot];
+    if (((held ^ word) & CLOCK_ISSUE) == 0 &&
+        (held >> CLOCK_NUMBER == 0 || held >> CLOCK_NUMBER == l->tag >> CLOCK_NUMBER) &&
+        is_older(l->clock_epoch[slot], epoch))
+        return;
+    l->clock[slot] = word;
+    l->clock_epoch[slot] = epoch;
+}
+
 /* Type 2: record i begins with bit 57 + 69 * i, its fields after the slot with bit
  * 66 + 69 * i. */
 #define SLOT(i) (be16(frame + (57 + 69 * (i)) / 8) >> (7 - (57 + 69 * (i)) % 8) & 511)
@@ -449,8 +485,9 @@ INLINE unsigned take_orbits(struct ledger *l, const uint8_t *frame, uint64_t x)
     uint8_t mark[256];
     const uint32_t s[6] = { SLOT(0), SLOT(1), SLOT(2), SLOT(3), SLOT(4), SLOT(5) };
     uint64_t tag = (x >> 31 & 3) | ORBIT_HELD;
+    uint32_t epoch = x >> 37 & 0x1FFFF;
 
-    if ((x >> 37 & 0x1FFFF) > LAST_EPOCH)
+    if (epoch > LAST_EPOCH)
         return 10;
     if ((s[0] | s[1] | s[2] | s[3] | s[4] | s[5]) > 255)
         return 11;
@@ -467,12 +504,12 @@ INLINE unsigned take_orbits(struct ledger *l, const uint8_t *frame, uint64_t x)
         if (named_twice(slots, 6))
             return 12;
     }
-    l->orbit[s[0]] = (FIELDS(0) & ~(uint64_t)15) | tag;
-    l->orbit[s[1]] = (FIELDS(1) & ~(uint64_t)15) | tag;
-    l->orbit[s[2]] = (FIELDS(2) & ~(uint64_t)15) | tag;
-    l->orbit[s[3]] = (FIELDS(3) & ~(uint64_t)15) | tag;
-    l->orbit[s[4]] = (FIELDS(4) & ~(uint64_t)15) | tag;
-    l->orbit[s[5]] = (FIELDS(5) & ~(uint64_t)15) | tag;
+    keep_orbit(l, s[0], (FIELDS(0) & ~(uint64_t)15) | tag, epoch);
+    keep_orbit(l, s[1], (FIELDS(1) & ~(uint64_t)15) | tag, epoch);
+    keep_orbit(l, s[2], (FIELDS(2) & ~(uint64_t)15) | tag, epoch);
+    keep_orbit(l, s[3], (FIELDS(3) & ~(uint64_t)15) | tag, epoch);
+    keep_orbit(l, s[4], (FIELDS(4) & ~(uint64_t)15) | tag, epoch);
+    keep_orbit(l, s[5], (FIELDS(5) & ~(uint64_t)15) | tag, epoch);
     return 0;
 }
 
@@ -482,8 +519,9 @@ INLINE unsigned take_clocks(struct ledger *l, const uint8_t *frame, uint64_t x)
     unsigned before = 23 * (unsigned)(x >> 22 & 31);
     const uint8_t *slot;
     uint64_t tag = l->tag, w;
+    uint32_t epoch = x >> 37 & 0x1FFFF;
 
-    if ((x >> 37 & 0x1FFFF) > LAST_EPOCH)
+    if (epoch > LAST_EPOCH)
         return 10;
     if ((x >> 27 & 63) != l->key)
         return 14;
@@ -493,10 +531,10 @@ INLINE unsigned take_clocks(struct ledger *l, const uint8_t *frame, uint64_t x)
     /* Three records, from record j on. */
 #define THREE(j) \
     w = be64(frame + (66 + 18 * (j)) / 8); \
-    l->clock[slot[j]] = tag | (w >> (46 - (66 + 18 * (j)) % 8) & CLOCK_BITS); \
-    l->clock[slot[(j) + 1]] = tag | (w >> (28 - (66 + 18 * (j)) % 8) & CLOCK_BITS); \
+    keep_clock(l, slot[j], tag | (w >> (46 - (66 + 18 * (j)) % 8) & CLOCK_BITS), epoch); \
+    keep_clock(l, slot[(j) + 1], tag | (w >> (28 - (66 + 18 * (j)) % 8) & CLOCK_BITS), epoch); \
     if ((j) + 2 < 23) \
-        l->clock[slot[(j) + 2]] = tag | (w >> (10 - (66 + 18 * (j)) % 8) & CLOCK_BITS);
+        keep_clock(l, slot[(j) + 2], tag | (w >> (10 - (66 + 18 * (j)) % 8) & CLOCK_BITS), epoch);
     THREE(0) THREE(3) THREE(6) THREE(9) THREE(12) THREE(15) THREE(18) THREE(21)
     return 0;
 }
@@ -560,7 +598,7 @@ INLINE void keep_orbits(struct ledger *l, const uint8_t *frame, const struct par
     for (unsigned i = 0, at = p->orbits_at + 32; i < p->orbits; i++, at += 69) {
         const uint8_t *from = frame + at / 8;
         uint64_t fields = be64(from) << at % 8 | from[8] >> (8 - at % 8);
-        l->orbit[p->orbit_slot[i]] = (fields & ~(uint64_t)15) | tag;
+        keep_orbit(l, p->orbit_slot[i], (fields & ~(uint64_t)15) | tag, head >> 6);
     }
 }
 
@@ -579,8 +617,9 @@ INLINE unsigned take_by_place(struct ledger *l, const uint8_t *frame, uint64_t x
     unsigned first = x >> 10 & 511, refusal;
     const uint8_t *slot;
     uint64_t tag = l->tag;
-    uint32_t head;
+    uint32_t head, epoch;
 
+    epoch = x >> 29 & 0x1FFFF;
     refusal = judge_parts(frame, x, 78, 18, &p, &head);
     if (refusal != 0)
         return refusal;
@@ -596,7 +635,8 @@ INLINE unsigned take_by_place(struct ledger *l, const uint8_t *frame, uint64_t x
         slot = l->slot_at + first;
 #define PLACED(j) \
     case (j) + 1: \
-        l->clock[slot[j]] = tag | (be32(frame + (78 + 18 * (j)) / 8) >> (14 - (78 + 18 * (j)) % 8) & CLOCK_BITS); \
+        keep_clock(l, slot[j], tag | (be32(frame + (78 + 18 * (j)) / 8) >> (14 - (78 + 18 * (j)) % 8) & CLOCK_BITS), \
+                   epoch); \
         __attribute__((fallthrough));
         switch (p.clocks) {
             DOWN_FROM_22(PLACED)
@@ -629,8 +669,9 @@ INLINE unsigned take_by_slot(struct ledger *l, const uint8_t *frame, uint64_t x)
     uint64_t tag = (x >> 23 & 3) << CLOCK_SSR | CLOCK_HELD;
     uint8_t mark[512];
     uint16_t slot[15];
-    uint32_t head;
+    uint32_t head, epoch;
 
+    epoch = x >> 29 & 0x1FFFF;
     refusal = judge_parts(frame, x, 65, 27, &p, &head);
     if (refusal != 0)
         return refusal;
@@ -653,7 +694,8 @@ INLINE unsigned take_by_slot(struct ledger *l, const uint8_t *frame, uint64_t x)
         return 12;
 #define NAMED(j) \
     case (j) + 1: \
-        l->clock[slot[j]] = tag | (be32(frame + (74 + 27 * (j)) / 8) >> (14 - (74 + 27 * (j)) % 8) & CLOCK_BITS); \
+        keep_clock(l, slot[j], tag | (be32(frame + (74 + 27 * (j)) / 8) >> (14 - (74 + 27 * (j)) % 8) & CLOCK_BITS), \
+                   epoch); \
         __attribute__((fallthrough));
     switch (p.clocks) {
         DOWN_FROM_15(NAMED)

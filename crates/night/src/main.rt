@@ -14,7 +14,7 @@
 // Status: 0 well, 1 an error said on standard error, 2 usage, 3 unfit.
 mod files;
 mod fit;
-mod issues;
+mod issue_file;
 mod logs;
 mod options;
 mod report;
@@ -78,7 +78,7 @@ fn run(i: usize, count: usize, o: Options) -> u8 {
         return 1;
     }
     let mut issues = [65535u16; 255];
-    if !issues::read_issues(i + 1, &mut issues) {
+    if !issue_file::read_issues(i + 1, &mut issues) {
         return 1;
     }
     take_and_report(prn, issues, i + 2, count, o)

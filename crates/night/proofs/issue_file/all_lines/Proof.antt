@@ -3,11 +3,11 @@ use native.Mathlib.Omega.{arith}
 use Prim.Native.Nat.{ℕ, zero, suc, _+_, _*_, _-_, _/_, _%_, _^_, _≤_, _<_}
 use mathlib.Core.Path.{_≡_, sym, ap, _∙_, refl, subst}
 use lib.ListN.{length, getD}
-use Rattle.night.proofs.issues.all_lines.Statement.{statement}
-use Rattle.night.proofs.issues.all_lines.Tie as tie
-use Rattle.night.proofs.issues.all_lines.Reads as reads
-use Rattle.night.proofs.issues.all_lines.Lts as lts
-use Rattle.night.proofs.issues.turn.Reads as turn-reads
+use Rattle.night.proofs.issue_file.all_lines.Statement.{statement}
+use Rattle.night.proofs.issue_file.all_lines.Tie as tie
+use Rattle.night.proofs.issue_file.all_lines.Reads as reads
+use Rattle.night.proofs.issue_file.all_lines.Lts as lts
+use Rattle.night.proofs.issue_file.turn.Reads as turn-reads
 use Rattle.console.proofs.lines.begin.Reads as begin-reads
 use Rattle.console.proofs.lines.next_line.Reads as next-line-reads
 
