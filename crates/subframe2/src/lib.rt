@@ -5,7 +5,7 @@ ghost use Rattle.bits.specs.Bits.{fieldAt};
 ghost use Rattle.bits.specs.Table.{table};
 ghost use Rattle.records.specs.Signed.{signedHalf};
 ghost use Rattle.subframe2.specs.Fields.{widthOf, isSigned, numberOf, fieldsOf};
-ghost use Rattle.subframe2.specs.Read.{subframe2Refusal, subframe2Says, answer, readSubframe2};
+ghost use Rattle.subframe2.specs.Read.{subframe2Refusal, subframe2Says, readSubframe2};
 use verdict::Verdict;
 
 // 001, figures 6-6 and 6-12 to 6-14: the bits of each field, in order.

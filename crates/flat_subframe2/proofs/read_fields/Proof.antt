@@ -1,13 +1,9 @@
 use borrow.Author.Needs.{needs}
 use borrow.Author.Tests.{ne-eqb}
-use mathlib.Core.Path.{_≡_, ap, _∙_}
-use mathlib.Core.List.{List}
-use lib.IntN.{ℤ}
-use Rattle.bits.specs.Bytes.{storeAt}
+use mathlib.Core.Path.{_≡_, _∙_}
 use Rattle.subframe2.specs.Fields.{fieldsOf}
 use Rattle.subframe2.specs.Read.{subframe2Refusal}
 use Rattle.subframe2.proofs.AnswerLaws.{said-by, fields-by}
-use Rattle.flat_subframe2.specs.Write.{fieldsBytes}
 use Rattle.flat_subframe2.specs.Read.{fieldsRefusal}
 use Rattle.flat_subframe2.proofs.ReadLaws.{size-wrong, size-right, number-said, fields-whole}
 use Rattle.flat_subframe2.proofs.read_fields.Statement.{statement}
