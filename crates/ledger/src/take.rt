@@ -77,7 +77,7 @@ pub fn take_in(t: &mut [u8], frame: &[u8]) -> Verdict
     take_parts(t, frame)
 }
 
-// A frame is taken into a ledger: refusals 1, 3 to 15 and 19, lowest first. On a refusal every byte is as it was.
+// A frame is taken into a ledger: refusals 1, 3 to 12, 14, 15 and 19, lowest first. On a refusal every byte is as it was.
 pub fn take(ledger: &mut Ledger, frame: &[u8]) -> Verdict
     ensures verdict { λ r. ⌜ says r ≡ takeSays (now (ledger .entry)) (now (frame .entry)) ⌝ }
     ensures bytes { λ r. ⌜ now (ledger .exit) ≡ takeBytes (now (ledger .entry)) (now (frame .entry)) ⌝ }

@@ -80,7 +80,7 @@ pub extern "C" fn qvd_open(ledger: &mut [u8], prn: u8) -> u8
     0
 }
 
-// A frame is taken into a ledger. 1, 3 to 15, 19, 39.
+// A frame is taken into a ledger. 1, 3 to 12, 14, 15, 19, 39.
 #[no_mangle]
 pub extern "C" fn qvd_take(ledger: &mut [u8], frame: &[u8]) -> u8
     ensures answer { λ r. ⌜ r ≡ takeAnswer numberIn (now (ledger .entry)) (now (frame .entry)) ⌝ }
@@ -92,7 +92,7 @@ pub extern "C" fn qvd_take(ledger: &mut [u8], frame: &[u8]) -> u8
     number_of(take_in(ledger, frame))
 }
 
-// A frame is taken into a ledger, and the answer also says what the numbers 6 and 19 carry. 1, 3 to 15, 19, 39.
+// A frame is taken into a ledger, and the answer also says what the numbers 6 and 19 carry. 1, 3 to 12, 14, 15, 19, 39.
 #[no_mangle]
 pub extern "C" fn qvd_take_detail(ledger: &mut [u8], frame: &[u8]) -> u32
     ensures answer { λ r. ⌜ r ≡ takeAnswer detailIn (now (ledger .entry)) (now (frame .entry)) ⌝ }
