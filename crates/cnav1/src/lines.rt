@@ -65,7 +65,8 @@ fn put_name(room: &mut [u8], at: usize, a: u8, b: u8) -> usize
     put_part(
         room,
         at,
-        b"wn  how  iodc  iode  toe  sattype  da  adot  dn0  dn0dot  m0  e  omega  omega0  i0  omegadot  i0dot  cis  cic  crs  crc  cus  cuc  toc  a0  a1  a2  tgdb2ap  iscb1cd  tgdb1cp  rev ",
+        b"wn  how  iodc  iode  toe  sattype  da  adot  dn0  dn0dot  m0  e  omega  omega0  i0  omegadot  i0dot  \
+        cis  cic  crs  crc  cus  cuc  toc  a0  a1  a2  tgdb2ap  iscb1cd  tgdb1cp  rev ",
         a as usize,
         b as usize,
     )

@@ -78,6 +78,17 @@ fn put_reserved(room: &mut [u8], at: usize, reserved: u16) -> usize
     put_count(room, at, b"reserved", reserved as u64)
 }
 
+// The line of a mask.
+fn put_mask_line(room: &mut [u8], at: usize, ssr: u8, iodp: u8, satellites: u64) -> usize
+    ensures { λ r. ⌜ Counts r (now (room .exit)) ⌝ }
+{
+    let a = put_bytes(room, at, b"mask");
+    let b = put_field(room, a, b"ssr", ssr as u64);
+    let c = put_field(room, b, b"iodp", iodp as u64);
+    let d = put_field(room, c, b"satellites", satellites);
+    put_byte(room, d, 10)
+}
+
 // The line of the mask in force, and how many reserved bits it has.
 fn put_mask(room: &mut [u8], at: usize, ledger: &[u8]) -> usize
     ensures { λ r. ⌜ Counts r (now (room .exit)) ⌝ }
@@ -85,18 +96,12 @@ fn put_mask(room: &mut [u8], at: usize, ledger: &[u8]) -> usize
     if !held_mask::has_mask(ledger) {
         return put_bytes(room, at, b"mask none\n");
     }
-    let a = put_bytes(room, at, b"mask");
-    let b = put_field(room, a, b"ssr", held_mask::mask_ssr(ledger) as u64);
-    let c = put_field(room, b, b"iodp", held_mask::mask_iodp(ledger) as u64);
+    let ssr = held_mask::mask_ssr(ledger);
+    let iodp = held_mask::mask_iodp(ledger);
     let reserved = crate::rows::reserved_count(ledger);
-    let d = put_field(
-        room,
-        c,
-        b"satellites",
-        assigned_of(mask_bits::set_count(ledger), reserved),
-    );
-    let e = put_byte(room, d, 10);
-    put_reserved(room, e, reserved)
+    let satellites = assigned_of(mask_bits::set_count(ledger), reserved);
+    let a = put_mask_line(room, at, ssr, iodp, satellites);
+    put_reserved(room, a, reserved)
 }
 
 // The first and the last epoch.

@@ -11,10 +11,10 @@ use Rattle.pack.proofs.slots.slot_word.Reads as slot-word-reads
 use Rattle.pack.proofs.cursor.failed.Reads as failed-reads
 
 abbrev Inv-loop : tie.InvT-loop
-Inv-loop s bits₀ cursor₀ last₀ i₀ bits cursor last i = i ≤ 255
+Inv-loop s bytes₀ cursor₀ last₀ i₀ bytes cursor last i = i ≤ 255
 
 abbrev μ-loop : tie.MeasureT-loop
-μ-loop s bits₀ cursor₀ last₀ i₀ bits cursor last i = 255 - i
+μ-loop s bytes₀ cursor₀ last₀ i₀ bytes cursor last i = 255 - i
 
 loop-holds : tie.Need-loop-holds Inv-loop μ-loop
 loop-holds c = search needs
@@ -31,14 +31,8 @@ failed-requires c κs = search needs
 returns-2 : tie.Need-returns-2 Inv-loop μ-loop
 returns-2 c = search needs
 
-cast-k : tie.Need-cast-k Inv-loop μ-loop
-cast-k c = search needs
-
-sub-k : tie.Need-sub-k Inv-loop μ-loop
-sub-k c = search needs
-
-array-write-bits : tie.Need-array-write-bits Inv-loop μ-loop
-array-write-bits c = search needs
+with-slot-requires : tie.Need-with-slot-requires Inv-loop μ-loop
+with-slot-requires c κs = search needs
 
 add-i : tie.Need-add-i Inv-loop μ-loop
 add-i c = search needs
@@ -63,9 +57,7 @@ read-slots-spec =
     returns
     failed-requires
     returns-2
-    cast-k
-    sub-k
-    array-write-bits
+    with-slot-requires
     add-i
     loop-less
     loop-again
