@@ -1,12 +1,11 @@
 // Reading: the contents of a message that begins at any bit.
 ghost use mathlib.Core.Path.{_≡_};
 ghost use Prim.Native.Nat.{_+_, _<_, _≤_};
-ghost use Rattle.contents.specs.Parts.{clockNth, clocksAt, orbitNth, orbitsAt, maskByteAt, maskBytesAt, maskPartAt, clockPartAt, orbitPartAt, maskIn, clocksIn, orbitsIn, layoutAt, contentsAt};
+ghost use Rattle.contents.specs.Parts.{clockNth, clocksAt, orbitNth, orbitsAt, maskByteAt, maskBytesAt, maskPartAt, orbitPartAt, maskIn, clocksIn, orbitsIn, layoutAt, contentsAt};
 use crate::parts::ClockPart;
 use crate::parts::Contents;
 use crate::parts::MaskPart;
 use crate::parts::OrbitPart;
-use crate::parts::no_clocks;
 use crate::parts::no_mask;
 use crate::parts::no_orbits;
 use layout::Layout;
@@ -38,7 +37,7 @@ fn read_clocks(s: &[u8], at: u32, slotted: bool, count: u8) -> [Clock; 23]
 {
     let mut out = [blank_clock(); 23];
     let mut i: u32 = 0;
-    while i < 23 {
+    while (i < 23) & (i < count as u32) {
         out[i as usize] = nth_clock(s, at, slotted, count, i);
         i += 1;
     }
@@ -115,30 +114,6 @@ fn read_mask_part(s: &[u8], at: u32) -> MaskPart
     }
 }
 
-// The clock part from bit at on.
-fn read_clock_part(s: &[u8], at: u32, l: Layout) -> ClockPart
-    requires { ⌜ (at < 50000) × (l .iodp ≤ 4) × (l .start ≤ 9) ⌝ }
-    ensures { λ r. ⌜ r ≡ clockPartAt (now (s .entry)) at l ⌝ }
-{
-    let a = at as usize;
-    let p = l.iodp as usize;
-    let w = l.start as usize;
-    let from = at + (23 + l.iodp as u32 + l.start as u32);
-    let epoch = bits::get32(s, a, 17);
-    let ssr = bits::get8(s, a + 17 + 4, 2);
-    let iodp = bits::get8(s, a + 17 + 4 + 2, p);
-    let start = bits::get16(s, a + 17 + 4 + 2 + p, w);
-    let clocks = read_clocks(s, from, l.slotted, l.clocks);
-    ClockPart {
-        epoch,
-        ssr,
-        iodp,
-        start,
-        count: l.clocks,
-        clocks,
-    }
-}
-
 // The orbit part from bit at on.
 fn read_orbit_part(s: &[u8], at: u32, l: Layout) -> OrbitPart
     requires { ⌜ at < 50000 ⌝ }
@@ -167,15 +142,38 @@ fn mask_in(s: &[u8], at: u8, l: Layout) -> MaskPart
     }
 }
 
-// The clock part of a message that begins at bit at.
+// The clock part of a message that begins at bit at. Its records are blank where it has none.
 fn clocks_in(s: &[u8], at: u8, l: Layout) -> ClockPart
     requires { ⌜ (l .iodp ≤ 4) × (l .start ≤ 9) ⌝ }
     ensures { λ r. ⌜ r ≡ clocksIn (now (s .entry)) at l ⌝ }
 {
+    let from = at as u32 + l.head as u32;
+    let records = from + (23 + l.iodp as u32 + l.start as u32);
+    let clocks = read_clocks(s, records, l.slotted, l.clocks);
     if l.clocks == 0 {
-        no_clocks()
-    } else {
-        read_clock_part(s, at as u32 + l.head as u32, l)
+        return ClockPart {
+            epoch: 0,
+            ssr: 0,
+            iodp: 0,
+            start: 0,
+            count: 0,
+            clocks,
+        };
+    }
+    let a = from as usize;
+    let p = l.iodp as usize;
+    let w = l.start as usize;
+    let epoch = bits::get32(s, a, 17);
+    let ssr = bits::get8(s, a + 17 + 4, 2);
+    let iodp = bits::get8(s, a + 17 + 4 + 2, p);
+    let start = bits::get16(s, a + 17 + 4 + 2 + p, w);
+    ClockPart {
+        epoch,
+        ssr,
+        iodp,
+        start,
+        count: l.clocks,
+        clocks,
     }
 }
 

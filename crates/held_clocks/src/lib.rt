@@ -151,12 +151,19 @@ pub fn replace_clock(t: &mut [u8], slot: Slot, h: HeldClock)
     put_at(t, at, h);
 }
 
+// Whether the clock kept for a slot came by place: its first two bytes say it.
+fn is_placed(t: &[u8], slot: Slot) -> bool
+    ensures { λ r. ⌜ r ≡ heldClockAt (now (t .entry)) (slot .0) .placed ⌝ }
+{
+    let at = clock_offset(slot);
+    (lent::byte(t, at) == 1) & (lent::byte(t, at + 1) == 1)
+}
+
 // A slot's clock is dropped if it came by place.
 fn drop_clock(t: &mut [u8], slot: Slot)
     ensures { λ r. ⌜ now (t .exit) ≡ dropClock (now (t .entry)) (slot .0) ⌝ }
 {
-    let h = get_clock(t, slot);
-    if h.placed {
+    if is_placed(t, slot) {
         put_clock(t, slot, no_clock());
     }
 }

@@ -32,21 +32,24 @@ fn clocks_by_slot(t: &mut [u8], p: ClockPart)
     }
 }
 
-// Clock records from a place on are kept, each for the slot that has its place; filler is none.
+// Clock records from a place on are kept, each for the slot that has its place. After the first filler come only others;
+// place 0 names nothing, and the first place follows it.
 fn clocks_by_place(t: &mut [u8], kind: u8, p: ClockPart)
     requires { ⌜ needsMask kind p ≡ true ⌝ }
     ensures { λ r. ⌜ now (t .exit) ≡ replaceClocks (now (t .entry)) (clocksOf (maskAt (now (t .entry))) kind p) ⌝ }
 {
-    let ks = p.clocks;
     let count = p.count as usize;
     let mut from = Slot(0);
     let mut n = first_place(kind, p);
     let mut j: usize = 0;
     while (j < 23) & (j < count) {
         let slot = mask_bits::nth_after(t, from, n);
-        let h = held_clock(true, p.epoch, p.ssr, ks[j]);
+        if (slot.0 == 0) & (n.0 != 0) {
+            return;
+        }
+        let h = held_clock(true, p.epoch, p.ssr, p.clocks[j]);
         held_clocks::replace_clock(t, slot, h);
-        from = mask_bits::resumed(from, n, slot);
+        from = slot;
         n = Place(1);
         j += 1;
     }

@@ -7,13 +7,14 @@ use Prim.Native.Nat.{ℕ, zero, suc, _+_, _-_, _*_, _/_, _%_, _≤_, _<_}
 use native.Mathlib.Decide.{decLt}
 use native.Mathlib.Omega.{arith}
 use lib.Dec.{eqb}
-use lib.Count.{ones, ones-step}
+use lib.Count.{ones, ones-step, ones-le}
 use lib.ListN.{getD, length, drop, List·getD-eq-default}
 use borrow.Author.Tests.{eq-eqb, ne-eqb}
 use Rattle.bits.specs.Bits.{bitAt, fieldAt}
 use Rattle.bits.specs.Pick.{pick}
 use Rattle.bits.specs.Table.{table}
-use Rattle.bits.proofs.FieldLaws.{bit-lt}
+use Rattle.bits.proofs.FieldLaws.{bit-lt, field-lt}
+use Rattle.bits.proofs.WindowLaws.{byte-field}
 use Rattle.bits.proofs.TableLaws.{length-table, getD-table, table-ext}
 use Rattle.contents.specs.Parts.{maskBitAt, maskBitsAt}
 use Rattle.slots.specs.Slots.{setCount, nthFrom}
@@ -78,6 +79,16 @@ ones-count s at (suc n) =
     let odd : (2 * f + b) % 2 ≡ b = omega arith in
     let half : (2 * f + b) / 2 ≡ f = omega arith in
     ones-step (2 * f + b) ∙ rw (odd, half, ones-count s at n, count-append (table (maskBitAt s at) n) (eqb b 1 ∷ [])) (omega (arith, digit b l))
+
+-- at most n of n bits are set
+pub count-few : (s : List ℕ) (at n : ℕ) → setCount (table (maskBitAt s at) n) ≤ n
+count-few s at n = rw (← ones-count s at n) (ones-le n (fieldAt s at n) (field-lt s at n))
+
+-- the ones of a byte are its set bits
+pub byte-count : (s : List ℕ) (j : ℕ) → getD s (4 + j) 0 < 256 → ones (getD s (4 + j) 0) ≡ setCount (table (maskBitAt s (32 + 8 * j)) 8)
+byte-count s j h =
+    let e : 8 * (4 + j) ≡ 32 + 8 * j = omega arith in
+    ap ones (sym (byte-field s (4 + j) h)) ∙ ones-count s (8 * (4 + j)) 8 ∙ rw e
 
 -- fields are equal exactly if their bits are
 pub bits-of-field : (s t : List ℕ) (a b n : ℕ) → fieldAt s a n ≡ fieldAt t b n → table (maskBitAt s a) n ≡ table (maskBitAt t b) n

@@ -1,7 +1,7 @@
 -- A walk over the places of a mask that goes on from the slot of the last one finds what counting from the start does.
 use mathlib.Core.Path.{_≡_, refl, sym, ap, _∙_, subst}
 use mathlib.Core.Logic.{_≢_, dite}
-use mathlib.Core.Bool.{Bool, true, false}
+use mathlib.Core.Bool.{Bool, true, false, not, _&&_, true≢false}
 use mathlib.Core.List.{List, [], _∷_}
 use Prim.Native.Nat.{ℕ, suc, _+_, _-_, _≤_}
 use native.Mathlib.Decide.{ℕ-discrete}
@@ -42,7 +42,7 @@ nth-from (true ∷ bs) b n h =
     (λ q. rw (more bs b n q) (let l = nth-from bs (b + 1) (n - 1) (λ e. h (more bs b n q ∙ e)) in omega (arith, l)))
 
 -- after a place with no slot come none with one
-no-more : (bs : List Bool) (b n m : ℕ) → 1 ≤ b → 1 ≤ n → nthFrom bs b n ≡ 0 → nthFrom bs b (n + m) ≡ 0
+pub no-more : (bs : List Bool) (b n m : ℕ) → 1 ≤ b → 1 ≤ n → nthFrom bs b n ≡ 0 → nthFrom bs b (n + m) ≡ 0
 no-more [] b n m hb hn e = none-in b (n + m)
 no-more (false ∷ bs) b n m hb hn e = clear bs b (n + m) ∙ no-more bs (b + 1) n m (omega arith) hn (sym (clear bs b n) ∙ e)
 no-more (true ∷ bs) b n m hb hn e =
@@ -94,3 +94,13 @@ walk-on bits from n m x l hm e =
     rw (ne-eqb n 0 z, ne-eqb x 0 y)
     (ap (λ (bs : List Bool). nthFrom bs (x + 1) m) (ap (λ (k : ℕ). drop k bits) (sym f) ∙ sym (drop-drop (x + 1 - (from + 1)) from bits))
     ∙ on (drop from bits) (from + 1) n m x (omega arith) hm (sym e) y)))
+
+-- that is the slot found, but for filler
+pub resumed-there : (from n x : ℕ) → (n ≡ 0 → from ≡ x) → eqb x 0 && not (eqb n 0) ≡ false → resumedAt from n x ≡ x
+resumed-there from n x same e =
+    dite (ℕ-discrete n 0)
+    (λ z. rw (eq-eqb n 0 z) (same z))
+    (λ z.
+    dite (ℕ-discrete x 0)
+    (λ y. absurd (true≢false (rw (eq-eqb x 0 y, ne-eqb n 0 z) at e)))
+    (λ y. rw (ne-eqb n 0 z, ne-eqb x 0 y)))

@@ -1,6 +1,6 @@
 -- What one frame's records name, a turn of a walk at a time, and when a clock part by place is refused.
 use mathlib.Core.Path.{_≡_, refl, sym, ap, _∙_}
-use mathlib.Core.Logic.{_≢_, _⊎_, inl, inr, dite}
+use mathlib.Core.Logic.{_≢_, inr, dite}
 use Prim.Native.Nat.{ℕ, _+_, _≤_, _<_}
 use mathlib.Core.Bool.{Bool, true, false, _&&_}
 use mathlib.Core.List.{List, [], _∷_, map}
@@ -9,7 +9,7 @@ use lib.Dec.{eqb, ltb}
 use lib.ListN.{getD, length, take, drop, drop-of-length-le, length-map}
 use native.Mathlib.Decide.{ℕ-discrete, decLt}
 use native.Mathlib.Omega.{arith}
-use borrow.Author.Tests.{eq-eqb, ne-eqb, lt-ltb, le-ltb, ltb-true, ltb-false}
+use borrow.Author.Tests.{eq-eqb, ne-eqb, lt-ltb, le-ltb}
 use Rattle.bits.specs.Pick.{pick}
 use Rattle.bits.proofs.TableLaws.{drop-one}
 use Rattle.slots.specs.Slots.{slotNamed, setCount, nthSet}
@@ -20,8 +20,10 @@ use Rattle.contents.specs.declared.parts.ClockPart.{ClockPart}
 use Rattle.contents.specs.declared.parts.OrbitPart.{OrbitPart}
 use Rattle.contents.specs.declared.parts.Contents.{Contents}
 use Rattle.layout.proofs.LayoutLaws.{pick-all}
-use Rattle.lent.specs.Held.{replaceHelds, replaceHeld}
-use Rattle.lent.proofs.HeldLaws.{replace-named, AllHeld}
+use Rattle.lent.specs.Held.{replaceHelds, replaceHeld, targetOf}
+use Rattle.lent.proofs.HeldLaws.{replace-named, target-replaced, AllHeld}
+use Rattle.lent.proofs.PastLaws.{store-past}
+use Rattle.mask_bits.proofs.PlaceLaws.{no-more}
 use Rattle.held_clocks.specs.declared.HeldClock.{HeldClock}
 use Rattle.held_clocks.proofs.ClockLaws.{ClocksHeld}
 use Rattle.held_orbits.specs.declared.HeldOrbit.{HeldOrbit}
@@ -54,22 +56,17 @@ module _ {R A : Type 0} (replaces : A → A → Bool) (absent : A) (of : List �
   unfolding replaceHelds byPlace
   place-end bits n h = rw (drop-of-length-le rs h)
 
--- the walk goes on below 23 and below the count, and stops at the first of the two
-pub turn : (j n : ℕ) → ltb j 23 && ltb j n ≡ true → (j < 23) × (j < n)
-turn j n e = go (ltb j 23) (ltb j n) refl refl e
-  where
-    go : (a b : Bool) → ltb j 23 ≡ a → ltb j n ≡ b → a && b ≡ true → (j < 23) × (j < n)
-    go true true p q e = (ltb-true j 23 p, ltb-true j n q)
-    go true false p q e = absurd (let z : _≡_ {A = ℕ} 0 1 = cc in omega arith)
-    go false b p q e = absurd (let z : _≡_ {A = ℕ} 0 1 = cc in omega arith)
+-- a record that names nothing is put nowhere, and from the first filler on no record names anything
+module _ {A : Type 0} (replaces : A → A → Bool) (absent : A) (of : List ℕ → A) (bytes : A → List ℕ) (w : ℕ) (long : (h : A) → length (bytes h) ≡ w) (st : ℕ) (s : List ℕ) where
+  replace-none : (h : A) → replaceHeld replaces of bytes w s st 0 h ≡ s
+  unfolding targetOf
+  replace-none h = sym (target-replaced replaces absent of bytes w long s st 0 h (omega arith)) ∙ store-past s (length s) (bytes h) (omega arith)
 
-pub stop : (j n : ℕ) → ltb j 23 && ltb j n ≡ false → (23 ≤ j) ⊎ (n ≤ j)
-stop j n e = go (ltb j 23) (ltb j n) refl refl e
-  where
-    go : (a b : Bool) → ltb j 23 ≡ a → ltb j n ≡ b → a && b ≡ false → (23 ≤ j) ⊎ (n ≤ j)
-    go true true p q e = absurd (let z : _≡_ {A = ℕ} 0 1 = cc in omega arith)
-    go true false p q e = inr (ltb-false j n q)
-    go false b p q e = inl (ltb-false j 23 p)
+  pub place-filler : {R : Type 0} (f : R → A) (rs : List R) (bits : List Bool) (n : ℕ) → 1 ≤ n → nthSet bits n ≡ 0 → replaceHelds replaces of bytes w s st (byPlace f bits rs n) ≡ s
+  unfolding replaceHelds byPlace
+  place-filler f [] bits n l e = refl
+  place-filler f (r ∷ rs) bits n l e =
+      rw (e, replace-none (f r)) (place-filler f rs bits (n + 1) (omega arith) (no-more bits 1 n 1 (omega arith) l e))
 
 -- nothing is put where nothing is named
 pub replace-no : {A : Type 0} (replaces : A → A → Bool) (of : List ℕ → A) (bytes : A → List ℕ) (w st : ℕ) (s : List ℕ) → replaceHelds replaces of bytes w s st [] ≡ s

@@ -78,7 +78,7 @@ fn place_refusal(t: &[u8], kind: u8, p: ClockPart) -> u8
     if held_mask::mask_iodp(t) != p.iodp {
         return 14;
     }
-    if mask_bits::set_count(t) < place_to_check(kind, p).0 {
+    if mask_bits::is_past_last(t, place_to_check(kind, p)) {
         return place_number(kind);
     }
     0

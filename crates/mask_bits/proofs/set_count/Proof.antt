@@ -1,23 +1,15 @@
 -- n, and the set bits that are left from entry 51 * k on, are those of the whole mask.
 use borrow.Author.Needs.{needs}
 use native.Mathlib.Omega.{arith}
-use Prim.Native.Nat.{ℕ, _+_, _*_, _-_, _≤_}
-use mathlib.Core.List.{List}
-use mathlib.Core.Path.{_≡_, ap, _∙_}
-use lib.Count.{ones, ones-le}
+use Prim.Native.Nat.{_+_, _*_, _-_, _≤_}
+use mathlib.Core.Path.{_≡_}
 use lib.ListN.{drop}
-use Rattle.bits.specs.Bits.{fieldAt}
-use Rattle.bits.proofs.FieldLaws.{field-lt}
 use Rattle.slots.specs.Slots.{setCount}
 use Rattle.slots.proofs.SlotLaws.{count-end}
 use Rattle.mask_bits.specs.Bits.{bitsAt}
-use Rattle.mask_bits.proofs.BitLaws.{length-bits, ones-count, count-many}
+use Rattle.mask_bits.proofs.BitLaws.{length-bits, count-few, count-many}
 use Rattle.mask_bits.proofs.set_count.Statement.{statement}
 use Rattle.mask_bits.proofs.set_count.Tie as tie
-
--- at most 51 of 51 bits are set
-few : (x : ℕ) (t : List ℕ) (at : ℕ) → x ≡ fieldAt t at 51 → ones x ≤ 51
-few x t at e = rw e (ones-le 51 (fieldAt t at 51) (field-lt t at 51))
 
 abbrev Inv-loop : tie.InvT-loop
 Inv-loop t n₀ k₀ n k = (k ≤ 5) × (n ≤ 51 * k) × (n + setCount (drop (51 * k) (bitsAt t)) ≡ setCount (bitsAt t))
@@ -28,17 +20,14 @@ abbrev μ-loop : tie.MeasureT-loop
 loop-holds : tie.Need-loop-holds Inv-loop μ-loop
 loop-holds c = (omega arith, omega arith, omega arith)
 
-mul-get : tie.Need-mul-get Inv-loop μ-loop
-mul-get c = search needs
-
-add-get : tie.Need-add-get Inv-loop μ-loop
-add-get c = search needs
-
-get-requires : tie.Need-get-requires Inv-loop μ-loop
-get-requires c κs = search needs
+ones-in-fifth-requires : tie.Need-ones-in-fifth-requires Inv-loop μ-loop
+ones-in-fifth-requires c κs = search needs
 
 add-n : tie.Need-add-n Inv-loop μ-loop
-add-n c = omega (arith, few (c .get .result) _ _ (c .get .ensures))
+add-n c =
+    let l = c .before .before .loop in
+    let t = c .before .before .before .before .args .t .now in
+    omega (arith, count-few t (32 + 51 * l .k) 51)
 
 add-k : tie.Need-add-k Inv-loop μ-loop
 add-k c = search needs
@@ -50,11 +39,10 @@ loop-again : tie.Need-loop-again Inv-loop μ-loop
 loop-again c =
     let l = c .before .before .loop in
     let t = c .before .before .before .before .args .t .now in
-    let g = c .get in
+    let f = c .ones-in-fifth in
     let e : 51 * (l .k + 1) ≡ 51 * l .k + 51 = omega arith in
-    let set = ap ones (g .ensures) ∙ ones-count t (32 + 51 * l .k) 51 in
-    let turn = count-many t (51 * l .k) 51 (ones (g .result)) (omega arith) set in
-    (omega arith, omega (arith, few (g .result) _ _ (g .ensures)), rw e (omega (arith, turn, l .inv .2)))
+    let turn = count-many t (51 * l .k) 51 (f .result) (omega arith) (f .ensures) in
+    (omega arith, omega (arith, count-few t (32 + 51 * l .k) 51), rw e (omega (arith, turn, l .inv .2)))
 
 cast-result : tie.Need-cast-result Inv-loop μ-loop
 cast-result c = search needs
@@ -73,9 +61,7 @@ set-count-spec =
     Inv-loop
     μ-loop
     loop-holds
-    mul-get
-    add-get
-    get-requires
+    ones-in-fifth-requires
     add-n
     add-k
     loop-less

@@ -1,5 +1,5 @@
 use borrow.Author.Needs.{needs}
-use borrow.Author.Tests.{not-true, not-false}
+use borrow.Author.Tests.{not-true, not-false, ltb-true, ltb-false}
 use native.Mathlib.Omega.{arith}
 use Prim.Native.Nat.{_≤_}
 use mathlib.Core.Path.{sym, _∙_}
@@ -54,11 +54,11 @@ returns-4 c =
     let ssr = sym (c3 .before .before .mask-ssr .ensures) ∙ c3 .if3 .left in
     sym (place-iodp (maskAt (a .t .now)) (a .kind) (a .p) needed has ssr (λ e. c .if4 .taken (c .before .before .mask-iodp .ensures ∙ e)))
 
-set-count-requires : tie.Need-set-count-requires
-set-count-requires c κs = search needs
-
 place-to-check-requires : tie.Need-place-to-check-requires
 place-to-check-requires c κs = search needs
+
+is-past-last-requires : tie.Need-is-past-last-requires
+is-past-last-requires c κs = search needs
 
 place-number-requires : tie.Need-place-number-requires
 place-number-requires c κs = search needs
@@ -66,7 +66,7 @@ place-number-requires c κs = search needs
 returns-5 : tie.Need-returns-5
 returns-5 c =
     let c5 = c .before in
-    let c4 = c5 .before .before .before .before in
+    let c4 = c5 .before .before .before in
     let c3 = c4 .before .before .before in
     let c2 = c3 .before .before .before in
     let c1 = c2 .before .before in
@@ -77,11 +77,12 @@ returns-5 c =
     let iodp = sym (c4 .before .before .mask-iodp .ensures) ∙ c4 .if4 .left in
     let past = place-past (maskAt (a .t .now)) (a .kind) (a .p) needed has ssr iodp in
     let near : setCount (maskAt (a .t .now) .bits) ≤ 255 = omega (arith, count-le (maskAt (a .t .now) .bits), length-bits (a .t .now)) in
-    c .place-number .ensures ∙ sym (past (as-past _ _ near (rw (c5 .before .before .before .set-count .ensures, c5 .before .before .place-to-check .ensures) at (c5 .if5 .taken))))
+    let test = rw (c5 .before .before .place-to-check .ensures) at (sym (c5 .before .is-past-last .ensures) ∙ c5 .if5 .taken) in
+    c .place-number .ensures ∙ sym (past (as-past _ _ near (ltb-true _ _ test)))
 
 returns-6 : tie.Need-returns-6
 returns-6 c =
-    let c4 = c .before .before .before .before in
+    let c4 = c .before .before .before in
     let c3 = c4 .before .before .before in
     let c2 = c3 .before .before .before in
     let c1 = c2 .before .before in
@@ -92,7 +93,8 @@ returns-6 c =
     let iodp = sym (c4 .before .before .mask-iodp .ensures) ∙ c4 .if4 .left in
     let near : setCount (maskAt (a .t .now) .bits) ≤ 255 = omega (arith, count-le (maskAt (a .t .now) .bits), length-bits (a .t .now)) in
     let good = place-good (maskAt (a .t .now)) (a .kind) (a .p) needed has ssr iodp in
-    sym (good (as-within _ _ near (rw (c .before .before .before .set-count .ensures, c .before .before .place-to-check .ensures) at (c .if5 .left))))
+    let test = rw (c .before .before .place-to-check .ensures) at (sym (c .before .is-past-last .ensures) ∙ c .if5 .left) in
+    sym (good (as-within _ _ near (ltb-false _ _ test)))
 
 pub place-refusal-spec : {M : Type 1} → statement M
 place-refusal-spec =
@@ -106,8 +108,8 @@ place-refusal-spec =
     returns-3
     mask-iodp-requires
     returns-4
-    set-count-requires
     place-to-check-requires
+    is-past-last-requires
     place-number-requires
     returns-5
     returns-6)
