@@ -1,7 +1,8 @@
 /* Quieuvodan: BeiDou PPP-B2b messages read and written, frames made, checked and
- * kept in a ledger, and the list of the satellites that qualify; subframes of
- * the D1 and D2 messages; and subframe 2 of B-CNAV1, whose IODC is joined into the
- * issue list. For C and C++.
+ * kept in a ledger, and the list of the satellites that qualify; the list as a
+ * correction sheet, written, read and checked; subframes of the D1 and D2
+ * messages; and subframe 2 of B-CNAV1, whose IODC is joined into the issue list.
+ * For C and C++.
  *
  * Link with libquieuvodan.a (x86-64 Linux), which `rt staticlib quieuvodan`
  * writes to target/staticlib/. It uses memcpy and memset of the C library and
@@ -13,15 +14,17 @@
  * Every function is total: for any bytes it ends, and answers QVD_TAKEN or one
  * refusal number, the lowest that applies. That number is what it returns, save
  * that qvd_take_detail, qvd_read_frame_detail and qvd_check_frame put more above
- * it for two of the refusals, and that qvd_next_piece returns a length and refuses
- * nothing. A refusal leaves all that was lent as it was, every byte of it,
+ * it for two of the refusals, that the three functions on sheets put an offset, a
+ * row, a length or a count above it, and that qvd_next_piece returns a length and
+ * refuses nothing. A refusal leaves all that was lent as it was, every byte of it,
  * whichever function refuses and with whatever number.
  *
  * QVD_LENGTH comes before all others: a ledger, a form or a room that is not as
  * long as this header says. A length that the rules themselves speak of is
  * refused by their number instead: a frame, a message, the room for either and
  * the issue list with QVD_BAD_LENGTH, both lengths of the two functions on D1 and
- * D2 subframes with QVD_D1_LENGTH, a B-CNAV1 subframe with QVD_CNAV1_LENGTH.
+ * D2 subframes with QVD_D1_LENGTH, a B-CNAV1 subframe with QVD_CNAV1_LENGTH, room
+ * that is shorter than a sheet with QVD_SHEET_ROOM. A sheet may have any length.
  *
  * What the caller must keep, since no length can show it:
  * - each pointer is valid for the number of elements that follows it, also
@@ -56,7 +59,10 @@ enum {
     QVD_D1_BYTES = 38,      /* a subframe */
     QVD_D1_DATA_BYTES = 28, /* its information bits */
     QVD_CNAV1_BYTES = 75,   /* a subframe 2 */
-    QVD_CNAV1_FIELDS_BYTES = 248 /* its 31 fields */
+    QVD_CNAV1_FIELDS_BYTES = 248, /* its 31 fields */
+    QVD_SHEET_ROWS = 174,   /* most rows of a correction sheet */
+    QVD_SHEET_BYTES = 4187, /* the longest sheet: 11 bytes, and 24 a row */
+    QVD_SHEET_HEADER_BYTES = 5 /* what its header says */
 };
 
 /* What the functions answer. */
@@ -81,6 +87,14 @@ enum {
     QVD_ISSUE = 17,         /* an issue is neither 0 to 1023 nor 65535; joining: also an IODC above 1023 */
     QVD_NO_ROW = 18,        /* the slot does not qualify */
     QVD_LAST_PLACE = 19,    /* type 6: no satellite has the last place from Slot_S on */
+    QVD_NO_MASK = 20,       /* sheet to write or check: no mask is in force */
+                            /* 21 is given no more: a sheet has room for every slot that a list can have */
+    QVD_SHEET_ROOM = 22,    /* sheet to write: the room is shorter than the sheet */
+    QVD_SHEET = 23,         /* a sheet that cannot be read; with the offset of its first wrong field */
+    QVD_SHEET_SLOT = 24,    /* sheet to check: a row's slot is none of our list's; with the row */
+    QVD_SHEET_NUMBERS = 25, /* sheet to check: a row has other numbers than ours; with the row */
+    QVD_SHEET_TWICE = 26,   /* sheet to check: a row stood there before; with the row */
+    QVD_SHEET_HEADER = 27,  /* sheet to check: its PRN, IOD SSR or IODP is not the ledger's */
     QVD_D1_LENGTH = 31,     /* subframe not 38 bytes, its information not 28, a subframe's last four bits not zero */
     QVD_D1_PREAMBLE = 32,   /* preamble is not 11100010010 */
     QVD_D1_FRAID = 33,      /* FraID is not 1 to 5 */
@@ -89,7 +103,7 @@ enum {
     QVD_CNAV1_CHECK = 36,   /* its check bits wrong */
     QVD_CNAV1_HOUR = 37,    /* its HOW is above 167 */
     QVD_CHANGED = 38,       /* a frame that is checked has other message symbols than its message */
-    QVD_LENGTH = 39         /* a ledger, contents, rows, verdicts, details or fields of another length than here */
+    QVD_LENGTH = 39         /* a ledger, contents, rows, verdicts, details, fields or header of another length than here */
 };
 
 enum { QVD_NO_ISSUE = 65535 };
@@ -156,7 +170,16 @@ enum {
  * first, the last 24 of them the check. Its fields, 248 bytes: 31 raw numbers of 8
  * bytes, s, field QVD_CNAV1_.. at 8 times its number. WN, HOW, IODC, IODE, toe,
  * SatType, e, toc and Rev have no sign in the subframe; the others are negative
- * where their highest bit is set. Rev is given as it is sent. */
+ * where their highest bit is set. Rev is given as it is sent.
+ *
+ * A correction sheet, 11 bytes and 24 a row: fields one behind the other, each a
+ * tag (1 byte), the length of its content (2) and the content. Orbit values and
+ * clock are in tenths of a millimetre. docs/SHEET.md has it byte by byte.
+ *     01, 5   PRN (1), IOD SSR (1), IODP (1), number of rows (2)
+ *     02, 21  for each row: slot (1), IODN (2), IOD Corr (1), radial, along, cross,
+ *             clock (4 each, s), URA code (1)
+ *     FF, 0   the end
+ * What its header says, 5 bytes: the content of the field 01. */
 
 /* Makes the n bytes a fresh ledger for a PRN, whatever they held. 4, 39. */
 uint8_t qvd_open(uint8_t *ledger, size_t n, uint8_t prn);
@@ -259,6 +282,39 @@ uint8_t qvd_read_cnav1(const uint8_t *subframe, size_t m, uint8_t *fields, size_
 /* Puts the IODC that BeiDou satellite prn sends into an issue list of k entries,
  * QVD_ISSUES: entry prn - 1 becomes the IODC, the others are left. 1, 11, 17. */
 uint8_t qvd_join_issue(uint16_t *issues, size_t k, uint16_t prn, uint16_t iodc);
+
+/* Writes the rows of all slots that qualify as a correction sheet into the first
+ * bytes of a room of m bytes, and returns 256 times the sheet's length; the room
+ * past it stays as it was. The sheet of r rows has 11 + 24 * r bytes, at most
+ * QVD_SHEET_BYTES. A refusal is the number alone, below 256, in this order: 39, 1,
+ * 17, 20, 22. */
+uint32_t qvd_write_sheet(const uint8_t *ledger, size_t n, const uint16_t *issues, size_t k,
+                         uint8_t *room, size_t m);
+
+/* Reads a correction sheet of m bytes: what its header says into h bytes,
+ * QVD_SHEET_HEADER_BYTES, and its rows into r bytes, QVD_ROWS_BYTES, as qvd_rows
+ * gives them: one after the other, then zeros. A sheet is read exactly if the
+ * rules of qvd_write_sheet can give it: PRN of the ten, IOD SSR up to 3, IODP up to
+ * 15, as many rows as the header says and at most QVD_SHEET_ROWS, slots 1 to 174
+ * that rise, IODN up to 1023, IOD Corr up to 7, radial and clock 16 times -16383
+ * to 16383, along and cross 64 times -4095 to 4095, URA codes 1 to 63, and nothing
+ * behind the end. Else it returns 23 + 256 * offset: that of the tag of the first
+ * field that is wrong, missing or cut short, or of the first byte behind the end.
+ * 23, 39. */
+uint32_t qvd_read_sheet(const uint8_t *sheet, size_t m, uint8_t *header, size_t h,
+                        uint8_t *rows, size_t r);
+
+/* Checks a correction sheet of m bytes against a ledger and issues. It is accepted
+ * exactly if it reads as by qvd_read_sheet, save that its rows may stand in any
+ * order, its header has the ledger's PRN and the IOD SSR and IODP of the mask in
+ * force, and each of its rows is one of the list's, none twice. Then 256 times the
+ * number of the list's rows that it leaves out is returned: 0 is a sheet with all
+ * rows. What qvd_write_sheet writes is accepted so while the ledger takes no frame.
+ * Else, in this order: 39, 1, 17, 20; 23 + 256 * offset; 27; then for the first row
+ * that is wrong, from 1, the lowest of 24 + 256 * row, its slot is none of the
+ * list's, 25 + 256 * row, it has other numbers, 26 + 256 * row, it is repeated. */
+uint32_t qvd_check_sheet(const uint8_t *ledger, size_t n, const uint16_t *issues, size_t k,
+                         const uint8_t *sheet, size_t m);
 
 #ifdef __cplusplus
 }

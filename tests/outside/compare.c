@@ -1,4 +1,4 @@
-/* Makes many messages, frames, logs, contents, subframes and issue lists from a fixed seed,
+/* Makes many messages, frames, logs, contents, sheets, subframes and issue lists from a fixed seed,
  * good and damaged, hands them to the library and to the independent
  * implementation, and compares verdicts and what they give beside their number,
  * the pieces of torn logs, contents, written bytes, made frames, rows, and that
@@ -9,6 +9,7 @@
  * Ends with a table of how often each refusal number was compared, and with
  * status 1 at any difference, or if a number came too seldom. */
 #include "cnav1.h"
+#include "compare.h"
 #include "forms.h"
 #include "quieuvodan.h"
 #include "ref.h"
@@ -25,7 +26,7 @@
 
 static uint64_t seed, random_state;
 
-static uint32_t any32(void)
+uint32_t any32(void)
 {
     uint64_t z = random_state += UINT64_C(0x9E3779B97F4A7C15);
     z = (z ^ z >> 30) * UINT64_C(0xBF58476D1CE4E5B9);
@@ -33,14 +34,14 @@ static uint32_t any32(void)
     return (uint32_t)(z >> 32);
 }
 
-static unsigned below(unsigned n) { return (unsigned)((uint64_t)any32() * n >> 32); }
-static unsigned between(unsigned low, unsigned high) { return low + below(high - low + 1); }
-static bool chance(unsigned percent) { return below(100) < percent; }
+unsigned below(unsigned n) { return (unsigned)((uint64_t)any32() * n >> 32); }
+unsigned between(unsigned low, unsigned high) { return low + below(high - low + 1); }
+bool chance(unsigned percent) { return below(100) < percent; }
 
 /* Random numbers are drawn in statements of their own wherever C leaves open
  * which of two draws comes first, so that every compiler makes the same run. */
 
-static void any_bytes(uint8_t *bytes, size_t n)
+void any_bytes(uint8_t *bytes, size_t n)
 {
     size_t i = 0;
     for (; i + 4 <= n; i += 4) {
@@ -62,9 +63,9 @@ static void flip_bits(uint8_t *bytes, unsigned from, unsigned to, unsigned times
 
 /* ---- room with a page after it that cannot be touched ---- */
 
-/* The end of `size` bytes of room. Buffers are laid so that they end there,
- * and a call that goes past its buffer stops the run. */
-static uint8_t *room_end(size_t size)
+/* Buffers are laid so that they end there, and a call that goes past its buffer
+ * stops the run. */
+uint8_t *room_end(size_t size)
 {
     size_t page = (size_t)sysconf(_SC_PAGESIZE), whole;
     uint8_t *start;
@@ -79,23 +80,20 @@ static uint8_t *room_end(size_t size)
     return start + whole;
 }
 
-enum { MARGIN = 32, LOG_FRAMES = 8192, MOST_LEDGER = QVD_LEDGER_BYTES + 64 };
+enum { LOG_FRAMES = 8192 };
 
-static uint8_t *input_end, *message_end, *output_end, *ledger_end, *log_end, *verdicts_end, *issues_end;
+static uint8_t *input_end, *message_end, *output_end, *ledger_end, *log_end, *verdicts_end;
+uint8_t *issues_end;
 
 /* ---- what is being compared, and the first difference in full ---- */
 
-enum call {
-    OPEN, TAKE, TAKE_DETAIL, REPLAY, REPLAY_DETAIL, READ, READ_FRAME, READ_FRAME_DETAIL, WRITE, ROWS, ROW, D1_READ,
-    D1_WRITE, READ_CNAV1, JOIN_ISSUE, MAKE_FRAME, CHECK_FRAME, CALLS, NEXT_PIECE = CALLS /* this last one refuses nothing */
-};
 static const char *const call_name[CALLS + 1] = {
     "open", "take", "take_detail", "replay", "replay_detail", "read", "read_frame", "read_frame_detail", "write", "rows",
-    "row", "d1_read", "d1_write", "read_cnav1", "join_issue", "make_frame", "check_frame", "next_piece"
+    "row", "d1_read", "d1_write", "read_cnav1", "join_issue", "make_frame", "check_frame", "write_sheet", "read_sheet",
+    "check_sheet", "next_piece"
 };
 
-enum { MOST_VERDICT = 40, WANTED = 500 };
-static unsigned long tally[CALLS][MOST_VERDICT];
+unsigned long tally[CALLS][MOST_VERDICT];
 static unsigned long comparisons, differences;
 static unsigned long lists_with_rows, rows_seen, masks_changed, frames_noise;
 static unsigned long rows_of_any_bytes, subframes_corrected, frames_read_back;
@@ -105,29 +103,16 @@ static unsigned long pieces_compared, pieces_of_length[FRAME_BYTES + 1], overlap
 /* What came beside the numbers 6 and 19. */
 static bool first_seen[GROUPS + 1], failing_seen[GROUPS + 1], places_seen[SLOTS + 1];
 
-static struct {
-    const char *part;      /* of the run */
-    unsigned long number;  /* of the log, message or contents in it */
-    enum call call;
-    const uint8_t *input;
-    size_t input_bytes;
-    const uint16_t *issues;
-    size_t issue_count;
-    unsigned slot;
-    unsigned prn, flags, iodc;
-    const uint8_t *message; /* that a frame is checked against */
-    size_t message_bytes;
-    const uint8_t *log;    /* frames handed in so far, each with its length before it in two bytes */
-    size_t log_bytes;
-} now;
+struct now now;
 
-/* Begins a part of the run. Each has random numbers of its own, so that a
- * change to one part leaves the others as they were. */
-static void begin(const char *part)
+/* Each part has random numbers of its own, so that a change to one leaves the
+ * others as they were. */
+void begin(const char *part)
 {
     now.part = part;
     now.log = NULL;
     now.message = NULL;
+    now.ledger = NULL;
     random_state = seed * UINT64_C(0xD1342543DE82EF95);
     while (*part != 0)
         random_state = (random_state ^ (uint8_t)*part++) * UINT64_C(0x100000001B3);
@@ -156,6 +141,8 @@ static void print_case(const char *what)
         print_bytes("message", now.message, now.message_bytes);
     if (now.input != NULL)
         print_bytes("input", now.input, now.input_bytes);
+    if (now.ledger != NULL)
+        print_bytes("ledger", now.ledger, QVD_LEDGER_BYTES);
     if (now.issues != NULL) {
         printf("  issues (%zu):", now.issue_count);
         for (size_t i = 0; i < now.issue_count; i++)
@@ -169,7 +156,7 @@ static void print_case(const char *what)
     }
 }
 
-static void same_number(const char *what, unsigned library, unsigned reference)
+void same_number(const char *what, unsigned library, unsigned reference)
 {
     comparisons++;
     if (library == reference)
@@ -180,7 +167,7 @@ static void same_number(const char *what, unsigned library, unsigned reference)
     }
 }
 
-static void same_bytes(const char *what, const uint8_t *library, const uint8_t *reference, size_t n)
+void same_bytes(const char *what, const uint8_t *library, const uint8_t *reference, size_t n)
 {
     comparisons++;
     if (memcmp(library, reference, n) == 0)
@@ -220,14 +207,9 @@ static void stopped(int signal_number)
     _exit(1);
 }
 
-/* A lent output of n bytes, filled at random, with a margin before it. What it
- * should be afterwards is prepared in `should`. */
-static struct {
-    uint8_t should[MARGIN + QVD_ROWS_BYTES + 64];
-    size_t n;
-} lent;
+struct lent lent;
 
-static uint8_t *lend(size_t n)
+uint8_t *lend(size_t n)
 {
     lent.n = n;
     any_bytes(lent.should, MARGIN + n);
@@ -235,7 +217,7 @@ static uint8_t *lend(size_t n)
     return output_end - n;
 }
 
-static void lent_is_right(const char *what)
+void lent_is_right(const char *what)
 {
     same_bytes(what, output_end - lent.n - MARGIN, lent.should, MARGIN + lent.n);
 }
@@ -276,8 +258,6 @@ static void put_reserved(unsigned width)
 }
 
 static bool slip(unsigned percent) { return draft.faulty && chance(percent); }
-
-#define PICK(list) list[below(sizeof list / sizeof list[0])]
 
 /* The epoch that this log leans on: most are at or near it, or half a day off, so
  * that records of one issue meet in every way. */
@@ -982,23 +962,22 @@ static void compare_writes(unsigned long count)
 
 /* ---- the ledger and its list ---- */
 
-/* The library's ledger, with a margin before and up to 8 bytes after it. */
-static uint8_t *ledger;
-static struct ledger reference_ledger;
+uint8_t *ledger;
+struct ledger reference_ledger;
 static uint8_t ledger_before[MARGIN + MOST_LEDGER];
 
-static void place_ledger(void)
+void place_ledger(void)
 {
     ledger = ledger_end - QVD_LEDGER_BYTES - (chance(50) ? 0 : below(9));
     any_bytes(ledger - MARGIN, (size_t)(ledger_end - ledger) + MARGIN);
 }
 
-static void remember_ledger(void)
+void remember_ledger(void)
 {
     memcpy(ledger_before, ledger - MARGIN, (size_t)(ledger_end - ledger) + MARGIN);
 }
 
-static void ledger_is_unchanged(void)
+void ledger_is_unchanged(void)
 {
     same_bytes("the ledger afterwards", ledger - MARGIN, ledger_before, (size_t)(ledger_end - ledger) + MARGIN);
 }
@@ -1012,7 +991,7 @@ static void margins_are_unchanged(void)
 }
 
 /* A length that is not the ledger's, now and then. */
-static size_t some_ledger_length(void)
+size_t some_ledger_length(void)
 {
     size_t room = (size_t)(ledger_end - ledger);
     if (!chance(1))
@@ -1153,7 +1132,7 @@ static void compare_list(const struct leaning *l)
 
 /* ---- logs ---- */
 
-static const uint8_t ten[] = { 1, 2, 3, 4, 5, 59, 60, 61, 62, 63 };
+const uint8_t ten[10] = { 1, 2, 3, 4, 5, 59, 60, 61, 62, 63 };
 
 /* The frames handed in for this log, for the report of a difference. */
 static uint8_t handed[(2 + 256) * 512];
@@ -2155,6 +2134,9 @@ static const uint8_t gives[CALLS][16] = {
     [JOIN_ISSUE] = { 1, 11, 17 },
     [MAKE_FRAME] = { 1, 2, 4, 16 },
     [CHECK_FRAME] = { 1, 2, 3, 6, 38 },
+    [WRITE_SHEET] = { 1, 17, 20, 22, 39 },
+    [READ_SHEET] = { 23, 39 },
+    [CHECK_SHEET] = { 1, 17, 20, 23, 24, 25, 26, 27, 39 },
 };
 
 static unsigned long calls_of(enum call call)
@@ -2228,6 +2210,7 @@ static void print_table(void)
     for (int i = 0; i < MEETINGS; i++)
         printf(" %lu %s%s", ref_met[i], met_name[i], i + 1 < MEETINGS ? "," : "\n");
     printf("%lu pieces, %lu pairs of good frames that overlap\n", pieces_compared, overlaps_seen);
+    print_sheets();
     printf("beside 6 and 19: %u first groups, %u numbers of failing groups, %u numbers of places\n",
            count_seen(first_seen, GROUPS), count_seen(failing_seen, GROUPS), count_seen(places_seen, SLOTS));
 }
@@ -2235,7 +2218,7 @@ static void print_table(void)
 /* Whether something that the run is to show came too seldom. */
 static bool too_few(void)
 {
-    bool few = false;
+    bool few = too_few_sheets();
     for (int c = 0; c < CALLS; c++)
         for (int i = 0; i < 16 && gives[c][i] != 0; i++)
             if (tally[c][gives[c][i]] < WANTED) {
@@ -2306,6 +2289,7 @@ int main(int argc, char **argv)
     compare_joins(100 * percent);
     compare_made(100 * percent);
     compare_pieces(40 * percent);
+    compare_sheets(percent);
     begin("log");
     while (calls_of(TAKE) < 1200 * percent)
         compare_log(logs++, 1 + below(chance(20) ? 10 : 300));

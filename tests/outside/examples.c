@@ -1,10 +1,11 @@
 /* The worked examples of the rules, the code word of the interface document's
  * appendix, and the table of correction masks of the D1 and D2 messages, held
- * against the independent implementation; the whole list, what refusals give
- * beside their number, the frame of the appendix's word, and two subframes worked
- * by hand also against the library, through its C boundary. */
+ * against the independent implementation; the whole list and its correction sheet,
+ * what refusals give beside their number, the frame of the appendix's word, and two
+ * subframes worked by hand also against the library, through its C boundary. */
 #include "quieuvodan.h"
 #include "ref.h"
+#include "sheet.h"
 #include "words.h"
 
 #include <stdio.h>
@@ -338,6 +339,156 @@ static void whole_list_of_library(void)
     CHECK(memcmp(verdicts, "\0\0\0\0\16", 5) == 0);
 }
 
+/* ---- the correction sheet of the whole list ---- */
+
+/* As the change request prints it. */
+static const uint8_t printed_sheet[35] = { 0x01, 0x00, 0x05, 0x3C, 0x01, 0x05, 0x00, 0x01, 0x02, 0x00, 0x15, 0x13,
+                                           0x00, 0x25, 0x02, 0x00, 0x00, 0x06, 0x40, 0xFF, 0xFF, 0xF3, 0x80, 0x00,
+                                           0x00, 0x05, 0x00, 0xFF, 0xFF, 0xF6, 0xA0, 0x13, 0xFF, 0x00, 0x00 };
+
+/* The three calls of the library; with `own` the independent implementation's in
+ * the same form. */
+static uint32_t written(bool own, const struct ledger *l, const uint8_t *ledger, const uint16_t *issues, uint8_t *room, size_t m)
+{
+    size_t length = 0;
+    unsigned refusal;
+    if (!own)
+        return qvd_write_sheet(ledger, QVD_LEDGER_BYTES, issues, SLOTS, room, m);
+    refusal = ref_write_sheet(l, issues, SLOTS, room, m, &length);
+    return refusal + 256 * (uint32_t)length;
+}
+
+static uint32_t checked_as(bool own, const struct ledger *l, const uint8_t *ledger, const uint16_t *issues,
+                           const uint8_t *sheet, size_t m)
+{
+    size_t beside = 0;
+    unsigned refusal;
+    if (!own)
+        return qvd_check_sheet(ledger, QVD_LEDGER_BYTES, issues, SLOTS, sheet, m);
+    refusal = ref_check_sheet(l, issues, SLOTS, sheet, m, &beside);
+    return refusal + 256 * (uint32_t)beside;
+}
+
+static uint32_t read_as(bool own, const uint8_t *sheet, size_t m)
+{
+    static uint8_t header[QVD_SHEET_HEADER_BYTES], rows[QVD_ROWS_BYTES];
+    static struct sheet read;
+    size_t at = 0;
+    unsigned refusal;
+    if (!own)
+        return qvd_read_sheet(sheet, m, header, sizeof header, rows, sizeof rows);
+    refusal = ref_read_sheet(sheet, m, MOST_SHEET_ROWS, true, &read, &at);
+    return refusal + 256 * (uint32_t)at;
+}
+
+/* One byte of the printed sheet is another: the answer to reading it. */
+static uint32_t read_with(bool own, size_t at, uint8_t byte)
+{
+    uint8_t sheet[sizeof printed_sheet];
+    memcpy(sheet, printed_sheet, sizeof sheet);
+    sheet[at] = byte;
+    return read_as(own, sheet, sizeof sheet);
+}
+
+static void printed_sheet_read(bool own)
+{
+    uint8_t longer[2 * sizeof printed_sheet] = { 0 };
+
+    memcpy(longer, printed_sheet, sizeof printed_sheet);
+    CHECK(read_as(own, printed_sheet, 35) == 0);
+    CHECK(read_as(own, longer, 36) == 23 + 256 * 35);
+    CHECK(read_as(own, longer, 0) == 23 && read_as(own, longer, 7) == 23);
+    CHECK(read_as(own, longer, 8) == 23 + 256 * 8 && read_as(own, longer, 31) == 23 + 256 * 8);
+    CHECK(read_as(own, longer, 32) == 23 + 256 * 32 && read_as(own, longer, 34) == 23 + 256 * 32);
+    CHECK(read_with(own, 3, 6) == 23 && read_with(own, 4, 4) == 23 && read_with(own, 5, 16) == 23);
+    CHECK(read_with(own, 6, 1) == 23);                 /* 257 rows */
+    CHECK(read_with(own, 7, 0) == 23 + 256 * 8);       /* a row where the end is due */
+    CHECK(read_with(own, 7, 2) == 23 + 256 * 32);      /* the end where a row is due */
+    CHECK(read_with(own, 11, 0) == 23 + 256 * 8 && read_with(own, 11, 175) == 23 + 256 * 8);
+    CHECK(read_with(own, 12, 4) == 23 + 256 * 8);      /* IODN 1061 */
+    CHECK(read_with(own, 14, 8) == 23 + 256 * 8);
+    CHECK(read_with(own, 18, 0x41) == 23 + 256 * 8 && read_with(own, 18, 0x50) == 0);  /* radial, steps of 16 */
+    CHECK(read_with(own, 22, 0x90) == 23 + 256 * 8 && read_with(own, 22, 0xC0) == 0);  /* along, steps of 64 */
+    CHECK(read_with(own, 31, 0) == 23 + 256 * 8 && read_with(own, 31, 64) == 23 + 256 * 8);
+    CHECK(read_with(own, 34, 1) == 23 + 256 * 32);
+}
+
+static void printed_sheet_checked(bool own, const struct ledger *l, const uint8_t *ledger, const uint16_t *issues)
+{
+    static const uint8_t empty[11] = { 1, 0, 5, 60, 1, 5, 0, 0, 0xFF, 0, 0 };
+    uint8_t sheet[sizeof printed_sheet + SHEET_ROW_BYTES], other[sizeof sheet];
+
+    CHECK(checked_as(own, l, ledger, issues, printed_sheet, 35) == 0);
+    CHECK(checked_as(own, l, ledger, issues, empty, sizeof empty) == 256); /* our row is left out */
+    memcpy(sheet, printed_sheet, 8);
+    memcpy(sheet + 8, printed_sheet + 8, SHEET_ROW_BYTES);
+    memcpy(sheet + 32, printed_sheet + 8, SHEET_ROW_BYTES + SHEET_END_BYTES);
+    sheet[7] = 2;
+    CHECK(checked_as(own, l, ledger, issues, sheet, sizeof sheet) == 26 + 256 * 2);
+    CHECK(read_as(own, sheet, sizeof sheet) == 23 + 256 * 32);
+    memcpy(other, sheet, sizeof sheet);
+    other[32 + 23] = 20; /* the second row's URA code: other numbers before repeated */
+    CHECK(checked_as(own, l, ledger, issues, other, sizeof other) == 25 + 256 * 2);
+    other[32 + 3] = 64;
+    CHECK(checked_as(own, l, ledger, issues, other, sizeof other) == 24 + 256 * 2);
+    memcpy(other, printed_sheet, 35);
+    other[3] = 59;
+    CHECK(checked_as(own, l, ledger, issues, other, 35) == 27);
+    other[34] = 1;
+    CHECK(checked_as(own, l, ledger, issues, other, 35) == 23 + 256 * 32);
+}
+
+/* Sheets of every number of rows. A reader of before CR 11 reads those of up to 64
+ * rows, and refuses the others at the header; no part of them is shown. */
+static void sheet_limit(bool own)
+{
+    static struct sheet sheet, shown;
+    static uint8_t bytes[SHEET_BYTES];
+
+    sheet.prn = 60;
+    for (unsigned slot = 1; slot <= ASSIGNED_SLOTS; slot++) {
+        size_t n, at;
+        sheet.row[slot - 1] = (struct row){ .slot = (uint8_t)slot, .ura = { URA_ABOVE, 0 } };
+        sheet.count = slot;
+        n = ref_sheet_bytes(&sheet, bytes);
+        CHECK(n == 11 + 24 * slot && n <= QVD_SHEET_BYTES);
+        CHECK(read_as(own, bytes, n) == 0);
+        shown.count = 0;
+        at = 1;
+        CHECK(ref_read_sheet(bytes, n, OLD_SHEET_ROWS, true, &shown, &at) == (slot <= OLD_SHEET_ROWS ? 0 : 23));
+        CHECK(slot <= OLD_SHEET_ROWS ? shown.count == slot : at == 0 && shown.count == 0);
+    }
+}
+
+static void sheets(void)
+{
+    static uint8_t ledger[QVD_LEDGER_BYTES];
+    static struct ledger l;
+    uint8_t frame[5][FRAME_BYTES], room[64], before[64];
+    uint16_t issues[SLOTS];
+
+    memset(before, 0xA5, sizeof before);
+    whole_list_frames(frame, issues);
+    for (int own = 0; own < 2; own++) {
+        CHECK(ref_open(&l, 60) == 0 && qvd_open(ledger, sizeof ledger, 60) == 0);
+        CHECK(written(own, &l, ledger, issues, room, 0) == 20);
+        CHECK(checked_as(own, &l, ledger, issues, printed_sheet, 35) == 20);
+        for (int i = 0; i < 3; i++)
+            CHECK(ref_take(&l, frame[i], FRAME_BYTES) == 0 && qvd_take(ledger, sizeof ledger, frame[i], FRAME_BYTES) == 0);
+        memcpy(room, before, sizeof room);
+        CHECK(written(own, &l, ledger, issues, room, 34) == 22 && memcmp(room, before, sizeof room) == 0);
+        CHECK(written(own, &l, ledger, issues, room, sizeof room) == 35 * 256);
+        CHECK(memcmp(room, printed_sheet, 35) == 0 && memcmp(room + 35, before + 35, sizeof room - 35) == 0);
+        CHECK(written(own, &l, ledger, issues, room, 35) == 35 * 256);
+        printed_sheet_read(own);
+        printed_sheet_checked(own, &l, ledger, issues);
+        sheet_limit(own);
+        CHECK(ref_take(&l, frame[3], FRAME_BYTES) == 0 && qvd_take(ledger, sizeof ledger, frame[3], FRAME_BYTES) == 0);
+        CHECK(checked_as(own, &l, ledger, issues, printed_sheet, 35) == 27); /* IODP is 6 now */
+        CHECK(written(own, &l, ledger, issues, room, sizeof room) == 11 * 256);
+    }
+}
+
 /* What the library gives beside the numbers 6 and 19. */
 static void details_of_library(void)
 {
@@ -481,6 +632,7 @@ int main(void)
     places();
     whole_list();
     whole_list_of_library();
+    sheets();
     details_of_library();
     made_by_library();
     never_opened();

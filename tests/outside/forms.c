@@ -41,6 +41,15 @@ void row_to_bytes(const struct row *row, uint8_t bytes[ROW_FORM_BYTES])
     put(at, 4, row->ura.quarters);
 }
 
+void sheet_header_to_bytes(const struct sheet *sheet, uint8_t bytes[SHEET_HEADER_FORM_BYTES])
+{
+    uint8_t *at = bytes;
+    at = put(at, 1, sheet->prn);
+    at = put(at, 1, sheet->iod_ssr);
+    at = put(at, 1, sheet->iodp);
+    put(at, 2, (uint32_t)sheet->count);
+}
+
 void contents_to_bytes(const struct contents *c, uint8_t bytes[CONTENTS_FORM_BYTES])
 {
     uint8_t *at = bytes;
@@ -135,3 +144,53 @@ uint32_t detail_to_number(unsigned refusal, const struct detail *detail)
         return 19 + 256 * (uint32_t)detail->places;
     return refusal;
 }
+
+/* Of 0, -1, 1, -2, 2 .. the one that stands at a number, from 0. */
+static int16_t zigzag(uint32_t at) { return (int16_t)(at % 2 == 0 ? (int32_t)(at / 2) : -(int32_t)(at / 2) - 1); }
+
+static void clock_from_bytes(const uint8_t *at, struct held_clock *clock)
+{
+    const uint8_t *epoch = at + C_EPOCH, *c0 = at + C_C0;
+    clock->held = at[C_HELD] == 1;
+    clock->by_place = clock->held && at[C_BY_PLACE] == 1;
+    clock->epoch = get(&epoch, 4) % 86400 & ((1 << 17) - 1);
+    clock->iod_ssr = at[C_SSR];
+    clock->iod_corr = at[C_CORR];
+    clock->c0 = zigzag(get(&c0, 2));
+}
+
+static void orbit_from_bytes(const uint8_t *at, struct held_orbit *orbit)
+{
+    const uint8_t *epoch = at + O_EPOCH, *iodn = at + O_IODN, *values = at + O_RADIAL, *quarters = at + O_QUARTERS;
+    struct orbit_record *r = &orbit->record;
+    orbit->held = at[O_HELD] == 1;
+    orbit->epoch = get(&epoch, 4) % 86400 & ((1 << 17) - 1);
+    orbit->iod_ssr = at[O_SSR];
+    r->iodn = (uint16_t)get(&iodn, 2);
+    r->iod_corr = at[O_CORR];
+    r->radial = zigzag(get(&values, 2));
+    r->along = zigzag(get(&values, 2));
+    r->cross = zigzag(get(&values, 2));
+    r->ura.kind = at[O_URA] == 1 ? URA_QUARTERS : at[O_URA] == 2 ? URA_ABOVE : URA_UNKNOWN;
+    r->ura.quarters = r->ura.kind == URA_QUARTERS ? get(&quarters, 4) : 0;
+}
+
+void ledger_from_bytes(const uint8_t bytes[LEDGER_FORM_BYTES], struct ledger *ledger)
+{
+    memset(ledger, 0, sizeof *ledger);
+    ledger->prn = bytes[L_PRN];
+    ledger->has_mask = bytes[L_HAS_MASK] == 1;
+    ledger->mask.iod_ssr = bytes[L_SSR];
+    ledger->mask.iodp = bytes[L_IODP];
+    for (int slot = 1; slot <= SLOTS; slot++) {
+        struct held_orbit *orbit = &ledger->orbit[slot];
+        ledger->mask.set[slot] = bytes[L_MASK + (slot - 1) / 8] >> (7 - (slot - 1) % 8) & 1;
+        if (ledger->has_mask && ledger->mask.set[slot])
+            ledger->slot_at[++ledger->places] = (uint8_t)slot;
+        clock_from_bytes(bytes + L_CLOCKS + L_CLOCK_BYTES * (slot - 1), &ledger->clock[slot]);
+        orbit_from_bytes(bytes + L_ORBITS + L_ORBIT_BYTES * (slot - 1), orbit);
+        orbit->record.slot = (uint16_t)slot;
+    }
+}
+
+uint32_t beside_to_number(unsigned refusal, size_t beside) { return refusal + 256 * (uint32_t)beside; }

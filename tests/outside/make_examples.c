@@ -14,6 +14,7 @@
  * A row is the slot's when mask, orbit and clock agree; values are raw times 16
  * (radial, clock) or times 64 (along, cross). */
 #include "ref.c" /* for its two parity tables, beside what ref.h has */
+#include "sheet.h"
 
 #include <stdio.h>
 
@@ -28,6 +29,12 @@ enum { PRN = 60, OTHER_PRN = 59, WITHDRAWN = 0x20, UNUSABLE_15 = -16384, UNUSABL
 #define ROW_64(clock) \
     "    slot 64, GPS 1, IODN 88, corr 2, radial -16, along 0, cross 262080, clock " clock ", URA above\n"
 #define NO_ROWS ""
+
+/* The correction sheet of the whole list, as the change request prints it: header
+ * with PRN 60, IOD SSR 1, IODP 5 and one row; slot 19, IODN 37, corr 2, 1600, -3200,
+ * 1280, -2400, URA code 19; the end. */
+#define SHEET                                                                                                  \
+    "01 00 05 3C 01 05 00 01 02 00 15 13 00 25 02 00 00 06 40 FF FF F3 80 00 00 05 00 FF FF F6 A0 13 FF 00 00"
 
 /* ---- a case ---- */
 
@@ -303,6 +310,22 @@ static void flip(uint8_t *bytes, size_t bit) { bytes[bit / 8] ^= (uint8_t)(0x80 
 
 /* ---- the worked examples ---- */
 
+/* The sheet of the list as it is, against the one put down. */
+static void hold_sheet(void)
+{
+    uint8_t sheet[64];
+    char text[3 * sizeof sheet + 1] = "";
+    size_t n, short_by_one;
+
+    if (ref_write_sheet(&ledger, issues, SLOTS, sheet, sizeof sheet, &n) != 0 ||
+        ref_write_sheet(&ledger, issues, SLOTS, sheet, n - 1, &short_by_one) != 22)
+        stop("another answer to writing the sheet than the one put down");
+    for (size_t i = 0; i < n; i++)
+        snprintf(text + 3 * i, sizeof text - 3 * i, i + 1 < n ? "%02X " : "%02X", sheet[i]);
+    if (strcmp(text, SHEET) != 0)
+        stop("another sheet than the one put down");
+}
+
 /* Type 4 has places 1 to 23: 3, 19, 64 and 101 are the four set bits. Slot 3 has
  * no orbit, slot 64's clock is unusable, slot 101 has no orbit: slot 19 alone
  * has a row, clock -150 * 16. The mask with IODP 6 differs from the one that the
@@ -318,6 +341,7 @@ static void whole_list(void)
     hand_contents(mask_of(1, 5, false), 0, NO_ROWS);
     hand_contents(orbits_of(4), 0, NO_ROWS); /* no clock yet */
     hand_contents(clocks, 0, ROW_19("1600", "-2400"));
+    hold_sheet();
     hand_contents(mask_of(1, 6, true), 0, NO_ROWS);
     hand_contents(clocks, 14, NO_ROWS);
     end();
@@ -976,7 +1000,8 @@ static void before_the_cases(void)
 
 /* Asked of the ledger after the first three frames of the whole list, which has
  * one row, slot 19: there is no position 0 and no position 2, slot 64 does not
- * qualify, no slot is 0 or 256, an issue list has 255 numbers, none is 1024. */
+ * qualify, no slot is 0 or 256, an issue list has 255 numbers, none is 1024. Its
+ * correction sheet has 35 bytes. */
 static void after_the_cases(void)
 {
     printf("asked of the whole list:\n"
@@ -991,7 +1016,9 @@ static void after_the_cases(void)
            "  254 issues, slot 256: 1\n"
            "  an issue of 1024, slot 256: 11\n"
            "  an issue of 1024, slot 64: 17\n"
-           "  an issue of 1024, row 0: 17\n");
+           "  an issue of 1024, row 0: 17\n"
+           "  sheet " SHEET "\n"
+           "  sheet in room for 34: 22\n");
 }
 
 int main(int argc, char **argv)

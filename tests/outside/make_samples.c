@@ -13,14 +13,24 @@
  * none in that text and are always encoded here, as part of the damage: type 3,
  * which is not read yet, and a wrong check under right parity.
  *
+ * And night.sheet: the correction sheet of night.log and issues.txt, the list as it
+ * is at the log's end.
+ *
  * And night-1.log, night-2.log and night-issues.txt: a whole night of more than
  * four hours, of which one frame in 24 seconds is kept. It goes over midnight,
  * where 16 minutes are missing; a second mask comes early and a third just before
  * its end; bytes are lost in two places and too many in a third; the first log
  * ends inside a frame, and the second begins with the rest of it.
  *
+ * And subframes.cnav1, the B-CNAV1 subframes of that whole night's satellites, and
+ * mixed.txt, four minutes of night.log as a log of text in which D1 and B-CNAV1
+ * subframes stand between the frames.
+ *
  * Always the same bytes. */
+#include "cnav1.h"
 #include "ref.h"
+#include "sheet.h"
+#include "words.h"
 
 #include <stdio.h>
 #include <stdlib.h>
@@ -314,18 +324,20 @@ static void stop(const char *why)
     exit(1);
 }
 
-static FILE *create(const char *folder, const char *name)
+static FILE *open_file(const char *folder, const char *name, const char *mode)
 {
     char path[4096];
     FILE *out;
     snprintf(path, sizeof path, "%s/%s", folder, name);
-    out = fopen(path, "wb");
+    out = fopen(path, mode);
     if (out == NULL) {
-        fprintf(stderr, "make_samples: %s: cannot be written\n", path);
+        fprintf(stderr, "make_samples: %s: cannot be opened\n", path);
         exit(1);
     }
     return out;
 }
+
+static FILE *create(const char *folder, const char *name) { return open_file(folder, name, "wb"); }
 
 static void finish(FILE *out)
 {
@@ -540,14 +552,23 @@ static void make_messages(const char *folder)
     finish(out);
 }
 
-/* The issues as of a second of a night. */
-static void make_issues(const char *folder, const char *name, const struct night *of, unsigned second)
+/* The broadcast issue of a satellite that is known at a second. */
+static unsigned issue_known(unsigned slot, unsigned second)
+{
+    unsigned issue = iodn_of(slot, second);
+    return slot == 41 || slot == 66 ? (issue + 1023) % 1024 : issue; /* still the older one */
+}
+
+/* The issues as of a second of a night, as a list too. */
+static void make_issues(const char *folder, const char *name, const struct night *of, unsigned second, uint16_t issues[SLOTS])
 {
     FILE *out = create(folder, name);
     static const char letters[] = "?CGER";
     uint8_t slots[MOST];
     unsigned n;
 
+    for (int i = 0; i < SLOTS; i++)
+        issues[i] = NO_ISSUE;
     night = of;
     n = slots_at(second, slots);
     fprintf(out, "# Issues of the broadcast messages, as received that night.\n");
@@ -556,23 +577,232 @@ static void make_issues(const char *folder, const char *name, const struct night
         unsigned slot = slots[i];
         unsigned system = slot <= 63 ? 1 : slot <= 100 ? 2 : slot <= 137 ? 3 : 4;
         unsigned number = slot - (unsigned[]){ 0, 0, 63, 100, 137 }[system];
-        unsigned issue = iodn_of(slot, second);
+        unsigned issue = issue_known(slot, second);
         if (slot == 25 || slot == 81 || slot == 90) /* not received */
             continue;
-        if (slot == 41 || slot == 66) /* still the older one */
-            issue = (issue + 1023) % 1024;
         if (slot == 64)
             fprintf(out, "\n# GPS 18 and 27 were below the horizon.\n");
         fprintf(out, "%c%02u %u\n", letters[system], number, issue);
+        issues[slot - 1] = (uint16_t)issue;
     }
     finish(out);
     night = &minutes;
+}
+
+/* ---- subframes, in text ---- */
+
+enum { WEEK = 900, SUNDAY = 0, MIXED_FROM = 192, MIXED_TO = 432, NEVER_HEARD = 25, MEDIUM_ORBIT = 3 };
+
+/* The words before it, and bytes in hexadecimal; the line is not ended. */
+static void put_hex(FILE *out, const char *words, const uint8_t *bytes, size_t n)
+{
+    fprintf(out, "%s ", words);
+    for (size_t i = 0; i < n; i++)
+        fprintf(out, "%02x", bytes[i]);
+}
+
+/* A subframe 2 of B-CNAV1 with an issue, of an hour of the week. Ephemeris and clock
+ * are any bits. */
+static void cnav1_of(unsigned prn, unsigned iodc, unsigned hour, uint8_t subframe[CNAV1_BYTES])
+{
+    int64_t fields[CNAV1_FIELDS];
+    for (unsigned f = 0; f < CNAV1_FIELDS; f++)
+        fields[f] = (int64_t)scatter(64 * prn + f, iodc, 1 << 20) << 20 | scatter(64 * prn + f, 1024 + iodc, 1 << 20);
+    fields[0] = WEEK;
+    fields[CNAV1_HOW] = hour;
+    fields[CNAV1_IODC] = iodc;
+    fields[3] = iodc % 256;  /* IODE */
+    fields[4] = 12 * hour;   /* toe, in units of 300 s */
+    fields[5] = MEDIUM_ORBIT;
+    fields[23] = 12 * hour;  /* toc */
+    fields[30] = 0;          /* reserved */
+    ref_write_cnav1(subframe, fields);
+}
+
+static void put_cnav1(FILE *out, unsigned prn, const uint8_t *subframe, size_t n)
+{
+    char words[8];
+    snprintf(words, sizeof words, "C%02u", prn);
+    put_hex(out, words, subframe, n);
+    fprintf(out, "\n");
+}
+
+/* The subframes of the whole night: some satellites are heard before their issue is
+ * renewed, and of three there is one more that is refused and would change the list. */
+static void make_subframes(const char *folder)
+{
+    static const unsigned early[] = { 22, 33, 37, 44, 19 };
+    FILE *out = create(folder, "subframes.cnav1");
+    uint8_t subframe[CNAV1_BYTES];
+
+    night = &hours;
+    fprintf(out, "# Subframes 2 of B-CNAV1, one a line: the satellite, and its 75 bytes in hexadecimal.\n");
+    for (size_t i = 0; i < sizeof early / sizeof early[0]; i++) {
+        cnav1_of(early[i], issue_known(early[i], APART * FRAMES) - 1, SUNDAY + 22, subframe);
+        put_cnav1(out, early[i], subframe, CNAV1_BYTES);
+    }
+    fprintf(out, "\n# After midnight.\n");
+    for (unsigned prn = 50; prn >= 19; prn--) {
+        if (prn == 47 || prn == 49)
+            continue;
+        cnav1_of(prn, issue_known(prn, APART * FRAMES), SUNDAY + 26, subframe);
+        put_cnav1(out, prn, subframe, CNAV1_BYTES);
+    }
+    fprintf(out, "\n# Refused: some bits are wrong; the end is missing; HOW is above 167.\n");
+    cnav1_of(29, 555, SUNDAY + 26, subframe);
+    flip(subframe, 21);
+    flip(subframe, 300);
+    put_cnav1(out, 29, subframe, CNAV1_BYTES);
+    cnav1_of(35, 556, SUNDAY + 26, subframe);
+    put_cnav1(out, 35, subframe, 60);
+    cnav1_of(24, 557, 168, subframe);
+    put_cnav1(out, 24, subframe, CNAV1_BYTES);
+    finish(out);
+    night = &minutes;
+}
+
+/* A subframe of D1, of a second of the sample of eight minutes. */
+static void d1_of(unsigned prn, unsigned frame, unsigned second, uint8_t subframe[SUBFRAME_BYTES])
+{
+    uint8_t data[SUBFRAME_DATA_BYTES];
+    for (unsigned i = 0; i < sizeof data; i++)
+        data[i] = (uint8_t)scatter(prn, 32 * second + i, 256);
+    ref_put_bits(data, 0, 11, 0x712);
+    ref_put_bits(data, 11, 4, 0);
+    ref_put_bits(data, 15, 3, frame);
+    ref_put_bits(data, 18, 20, epoch_of(second / 6 * 6));
+    ref_code_subframe(subframe, data);
+}
+
+/* The line of a D1 subframe. One in five has a wrong bit in its last word, which is
+ * mended; three are refused. */
+static void put_d1(FILE *out, unsigned number, unsigned second)
+{
+    unsigned prn = 6 + number * 5 % 41;
+    uint8_t subframe[SUBFRAME_BYTES];
+    char words[16];
+
+    d1_of(prn, number == 31 ? 6 : 1 + second / 6 % 5, second, subframe);
+    if (number % 5 == 2)
+        flip(subframe, 270 + number % 30);
+    if (number == 60)
+        flip(subframe, 4); /* of the preamble */
+    snprintf(words, sizeof words, "D1 C%02u", prn);
+    put_hex(out, words, subframe, number == 47 ? SUBFRAME_BYTES - 1 : SUBFRAME_BYTES);
+    fprintf(out, "\n");
+}
+
+/* The line of a B-CNAV1 subframe. In the first round some satellites have an older
+ * issue; in the second three are refused, which would change the list. */
+static void put_mixed_cnav1(FILE *out, unsigned number)
+{
+    unsigned prn = 19 + number % 28;
+    unsigned issue = issue_known(prn, MIXED_TO);
+    uint8_t subframe[CNAV1_BYTES];
+
+    if (prn == NEVER_HEARD)
+        prn = 48;
+    if (number < 28 && number % 6 == 1)
+        issue--;
+    cnav1_of(prn, number >= 40 && number < 43 ? 1000 : issue, number == 42 ? 168 : 3 * 24 + 20, subframe);
+    if (number == 40)
+        flip(subframe, 599);
+    fprintf(out, "CNAV1 ");
+    put_cnav1(out, prn, subframe, number == 41 ? CNAV1_BYTES - 10 : CNAV1_BYTES);
+}
+
+/* What a torn line looks like: an odd number of digits, an even one, the end of a line
+ * alone, two lines in one, a satellite that there is not, a digit that is none. */
+static void put_torn(FILE *out, unsigned second, const uint8_t frame[FRAME_BYTES])
+{
+    switch (second) {
+    case 215:
+        put_hex(out, "B2B", frame, 70);
+        fprintf(out, "e\n");
+        break;
+    case 257:
+        put_hex(out, "B2B", frame, 70);
+        fprintf(out, "\n");
+        break;
+    case 290:
+        put_hex(out, "", frame + 100, 25);
+        fprintf(out, "\n");
+        break;
+    case 325:
+        put_hex(out, "B2B", frame, FRAME_BYTES);
+        put_hex(out, "D1 C33", frame, SUBFRAME_BYTES);
+        fprintf(out, "\n");
+        break;
+    case 350:
+        put_hex(out, "CNAV1 C64", frame, CNAV1_BYTES);
+        fprintf(out, "\n");
+        break;
+    case 388:
+        put_hex(out, "D1 C2 ", frame, SUBFRAME_BYTES);
+        fprintf(out, "\n");
+        break;
+    case 410:
+        put_hex(out, "B2B", frame, 100);
+        fprintf(out, "..\n");
+        break;
+    default: break;
+    }
+}
+
+/* Four minutes of night.log, which stands in the folder, as a mixed log. */
+static void make_mixed(const char *folder)
+{
+    FILE *out = create(folder, "mixed.txt"), *log;
+    uint8_t frame[FRAME_BYTES];
+    char path[4096];
+    unsigned cnav1 = 0, d1 = 0;
+
+    snprintf(path, sizeof path, "%s/night.log", folder);
+    log = fopen(path, "rb");
+    if (log == NULL || fseek(log, FRAME_BYTES * MIXED_FROM, SEEK_SET) != 0)
+        stop("night.log cannot be read");
+    fprintf(out, "# What one receiver heard, a record a line: frames of PPP-B2b, subframes 2 of B-CNAV1, subframes of D1.\n");
+    for (unsigned second = MIXED_FROM; second < MIXED_TO; second++) {
+        if (fread(frame, 1, FRAME_BYTES, log) != FRAME_BYTES)
+            stop("night.log is too short");
+        if (second % 60 == 0)
+            fprintf(out, "\n# %02u:%02u\n", epoch_of(second) / 3600, epoch_of(second) / 60 % 60);
+        put_hex(out, "B2B", frame, FRAME_BYTES);
+        fprintf(out, second % 100 == 37 ? "   # kept\n" : "\n");
+        if (second % 3 == 1)
+            put_d1(out, d1++, second);
+        if (second % 5 == 3)
+            put_mixed_cnav1(out, cnav1++);
+        put_torn(out, second, frame);
+    }
+    fclose(log);
+    finish(out);
+}
+
+/* The correction sheet of night.log, of which no piece is torn. */
+static void make_sheet(const char *folder, const uint16_t issues[SLOTS])
+{
+    FILE *in = open_file(folder, "night.log", "rb"), *out = create(folder, "night.sheet");
+    struct ledger ledger;
+    uint8_t frame[FRAME_BYTES], sheet[SHEET_BYTES];
+    size_t n;
+
+    if (ref_open(&ledger, PRN) != 0)
+        stop("the ledger cannot be opened");
+    while ((n = fread(frame, 1, FRAME_BYTES, in)) > 0)
+        ref_take(&ledger, frame, n);
+    fclose(in);
+    if (ref_write_sheet(&ledger, issues, SLOTS, sheet, sizeof sheet, &n) != 0)
+        stop("the sheet was refused");
+    fwrite(sheet, 1, n, out);
+    finish(out);
 }
 
 int main(int argc, char **argv)
 {
     const char *folder = argc > 1 ? argv[argc - 1] : "";
     FILE *packed = NULL;
+    uint16_t issues[SLOTS];
 
     if (argc == 3 && strcmp(argv[1], "-u") == 0) {
         make_undamaged(folder);
@@ -586,8 +816,11 @@ int main(int argc, char **argv)
         stop("the file of frames cannot be read");
     make_log(folder, packed);
     make_messages(folder);
-    make_issues(folder, "issues.txt", &minutes, SECONDS);
+    make_issues(folder, "issues.txt", &minutes, SECONDS, issues);
+    make_sheet(folder, issues);
     make_hours(folder);
-    make_issues(folder, "night-issues.txt", &hours, APART * FRAMES);
+    make_issues(folder, "night-issues.txt", &hours, APART * FRAMES, issues);
+    make_subframes(folder);
+    make_mixed(folder);
     return 0;
 }

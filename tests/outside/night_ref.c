@@ -1,12 +1,19 @@
-/* night_ref [-e] [--csv] [--quiet] [--min-rows N] [--max-refused PERCENT]
+/* night_ref [-e] [-m] [--csv] [--quiet] [--min-rows N] [--max-refused PERCENT]
  *           [--max-age SECONDS] [--max-gap SECONDS] PRN ISSUES LOG..
  *
  * What the program night is to print, by the independent implementation: one
  * fresh ledger for PRN, the pieces of the logs, which are one stream, and the
- * list against the broadcast issues. A file name - is standard input. Status 3
- * where a limit does not hold, 2 for usage. Files are taken to be well formed;
- * one that is not ends the program with status 1. */
+ * list against the broadcast issues. With -m the logs are mixed ones, of text: a
+ * line is a frame, or a subframe of B-CNAV1 or D1 with the satellite that it was
+ * heard from, and the issues of the B-CNAV1 subframes are joined into ISSUES, or
+ * into no issues where ISSUES is the word none. A file name - is standard input.
+ * Status 3 where a limit does not hold, 2 for usage. Issues are taken to be well
+ * formed; a file that is not ends the program with status 1. */
+#include "cnav1.h"
+#include "lines.h"
 #include "ref.h"
+#include "texts.h"
+#include "words.h"
 
 #include <stdio.h>
 #include <stdlib.h>
@@ -34,38 +41,21 @@ static const char *const refusal_words[] = {
 };
 enum { REFUSALS = sizeof refusal_words / sizeof refusal_words[0] };
 
-static const char letters[] = "?CGER"; /* by system */
-static const uint8_t before[] = { 0, 0, 63, 100, 137 };
-static const uint8_t satellites[] = { 0, 63, 37, 37, 37 };
-
 static const char *const reason_words[REASONS] = { "", "orbit", "clock", "ssr", "corr", "ura", "unusable", "issue" };
-
-static void stop(const char *file, const char *what)
-{
-    fprintf(stderr, "night_ref: %s: %s\n", file, what);
-    exit(1);
-}
 
 /* ---- what is asked for ---- */
 
 static struct {
-    bool each, csv, quiet;
+    bool each, mixed, csv, quiet;
     bool limits_refused, limits_age, limits_gap;
     unsigned long min_rows, max_refused, max_age, max_gap;
 } asked = { .min_rows = 1 };
 
 static void usage(void)
 {
-    fprintf(stderr, "usage: night_ref [-e] [--csv] [--quiet] [--min-rows N] [--max-refused PERCENT] [--max-age SECONDS] "
+    fprintf(stderr, "usage: night_ref [-e] [-m] [--csv] [--quiet] [--min-rows N] [--max-refused PERCENT] [--max-age SECONDS] "
                     "[--max-gap SECONDS] PRN ISSUES LOG..\n");
     exit(2);
-}
-
-/* Whether a word is a number of at most nine digits. */
-static bool is_number(const char *word)
-{
-    size_t digits = word == NULL ? 0 : strspn(word, "0123456789");
-    return digits > 0 && digits <= 9 && word[digits] == 0;
 }
 
 static unsigned long number_of(const char *word)
@@ -83,6 +73,8 @@ static int take_options(char **argv)
         const char *option = argv[arg];
         if (strcmp(option, "-e") == 0) {
             asked.each = true;
+        } else if (strcmp(option, "-m") == 0) {
+            asked.mixed = true;
         } else if (strcmp(option, "--csv") == 0) {
             asked.csv = true;
         } else if (strcmp(option, "--quiet") == 0) {
@@ -103,81 +95,6 @@ static int take_options(char **argv)
         }
     }
     return arg;
-}
-
-/* ---- files ---- */
-
-struct bytes {
-    uint8_t *at;
-    size_t n, room;
-};
-
-/* Puts what a file holds behind the bytes that there are. */
-static void read_file(const char *name, struct bytes *bytes)
-{
-    FILE *in = strcmp(name, "-") == 0 ? stdin : fopen(name, "rb");
-    size_t got;
-    if (in == NULL)
-        stop(name, "cannot be opened");
-    do {
-        if (bytes->n == bytes->room) {
-            bytes->room = 2 * bytes->room + 65536;
-            bytes->at = realloc(bytes->at, bytes->room);
-            if (bytes->at == NULL)
-                stop(name, "no memory");
-        }
-        got = fread(bytes->at + bytes->n, 1, bytes->room - bytes->n, in);
-        bytes->n += got;
-    } while (got > 0);
-    if (ferror(in))
-        stop(name, "cannot be read");
-    if (in != stdin)
-        fclose(in);
-}
-
-/* A line of ISSUES: a satellite and its issue, or nothing; what stands behind # is
- * a remark. */
-static void read_line(const char *name, char *line, uint16_t issues[SLOTS])
-{
-    char letter, junk;
-    unsigned number, issue, slot;
-    const char *found;
-
-    line[strcspn(line, "#")] = 0;
-    if (line[strspn(line, " \t\r")] == 0)
-        return;
-    if (sscanf(line, " %c%2u %u %c", &letter, &number, &issue, &junk) != 3)
-        stop(name, "malformed line");
-    found = strchr(letters + 1, letter);
-    if (found == NULL || letter == 0 || number == 0 || number > satellites[found - letters] || issue > LAST_ISSUE)
-        stop(name, "no such satellite or issue");
-    slot = before[found - letters] + number;
-    if (issues[slot - 1] != NO_ISSUE)
-        stop(name, "satellite named twice");
-    issues[slot - 1] = (uint16_t)issue;
-}
-
-static void read_issues(const char *name, uint16_t issues[SLOTS])
-{
-    struct bytes text = { 0 };
-    char *line, *end;
-
-    for (int i = 0; i < SLOTS; i++)
-        issues[i] = NO_ISSUE;
-    read_file(name, &text);
-    text.at[text.n] = 0; /* reading stops with room left */
-    line = (char *)text.at;
-    if (strncmp(line, "\xEF\xBB\xBF", 3) == 0)
-        line += 3;
-    for (; *line != 0; line = end) {
-        end = line + strcspn(line, "\n");
-        if (*end != 0)
-            *end++ = 0;
-        if (strlen(line) > 65536)
-            stop(name, "line too long");
-        read_line(name, line, issues);
-    }
-    free(text.at);
 }
 
 /* ---- the night ---- */
@@ -241,6 +158,85 @@ static void take_piece(const uint8_t *piece, size_t n)
         fprintf(stderr, "... %lu frames\n", pieces);
 }
 
+/* ---- mixed logs ---- */
+
+/* Subframes of one signal: how many there were, and how often each was refused. */
+struct heard {
+    unsigned long all, refused[40];
+};
+static struct heard cnav1, d1;
+static unsigned long lines, bad_lines;
+
+static void take_cnav1(const struct bytes *subframe, unsigned prn, uint16_t issues[SLOTS])
+{
+    int64_t fields[CNAV1_FIELDS];
+    unsigned refusal = ref_read_cnav1(fields, subframe->at, subframe->n);
+
+    if (refusal == 0)
+        refusal = ref_join_issue(issues, SLOTS, prn, (unsigned)fields[CNAV1_IODC]);
+    cnav1.all++;
+    cnav1.refused[refusal]++;
+}
+
+static void take_d1(const struct bytes *subframe)
+{
+    uint8_t data[SUBFRAME_DATA_BYTES];
+
+    d1.all++;
+    d1.refused[ref_read_subframe(data, sizeof data, subframe->at, subframe->n)]++;
+}
+
+/* Takes what the words of a line say; false if they are no record. */
+static bool take_record(const struct chars word[3], size_t words, uint16_t issues[SLOTS])
+{
+    bool is_frame = words == 2 && word_is(word[0], "B2B");
+    bool is_cnav1 = words == 3 && word_is(word[0], "CNAV1");
+    bool is_d1 = words == 3 && word_is(word[0], "D1");
+    unsigned prn = is_cnav1 || is_d1 ? slot_of(word[1]) : 0;
+    struct bytes said = { 0 };
+    bool good = is_frame || (prn >= 1 && prn <= 63);
+
+    good = good && read_hex(word[words - 1], &said);
+    if (good && is_frame)
+        take_piece(said.at, said.n);
+    else if (good && is_cnav1)
+        take_cnav1(&said, prn, issues);
+    else if (good)
+        take_d1(&said);
+    free(said.at);
+    return good;
+}
+
+static void take_mixed(const char *name, uint16_t issues[SLOTS])
+{
+    struct bytes bytes = { 0 };
+    struct chars text, line;
+
+    read_file(name, &bytes);
+    text = text_of(&bytes);
+    for (unsigned long number = 1; next_line(&text, &line); number++) {
+        struct chars word[3];
+        size_t words = words_of(line, word, 3);
+        if (words == 0 && line.n <= LINE_BYTES)
+            continue;
+        lines++;
+        if (line.n <= LINE_BYTES && take_record(word, words, issues))
+            continue;
+        bad_lines++;
+        if (bad_lines == 1 && !asked.quiet)
+            fprintf(stderr, "... %s: line %lu: not a record\n", called(name), number);
+    }
+    free(bytes.at);
+}
+
+static void print_heard(const char *signal, const char *done, const struct heard *heard)
+{
+    printf("%s %lu %s %lu refused %lu\n", signal, heard->all, done, heard->refused[0], heard->all - heard->refused[0]);
+    for (int i = 1; i < 40; i++)
+        if (heard->refused[i] > 0)
+            printf("%s-refusal %d %lu\n", signal, i, heard->refused[i]);
+}
+
 /* ---- the report ---- */
 
 /* How many places of the mask in force are those of satellites: they come first. */
@@ -258,6 +254,11 @@ static void print_counts(void)
     for (int i = 1; i < REFUSALS; i++)
         if (refused[i] > 0)
             printf("refusal %d %lu %s\n", i, refused[i], refusal_words[i]);
+    if (asked.mixed) {
+        print_heard("cnav1", "joined", &cnav1);
+        print_heard("d1", "read", &d1);
+        printf("lines %lu bad %lu\n", lines, bad_lines);
+    }
     if (ledger.has_mask)
         printf("mask ssr %u iodp %u satellites %u\n", ledger.mask.iod_ssr, ledger.mask.iodp, assigned());
     else
@@ -271,43 +272,14 @@ static void print_counts(void)
         printf("epochs none\n");
 }
 
-static void print_satellite(unsigned slot)
-{
-    unsigned system = slot <= 63 ? 1 : slot <= 100 ? 2 : slot <= 137 ? 3 : 4;
-    printf("%c%02u", letters[system], slot - before[system]);
-}
-
-/* A number of tenths of a millimetre in metres. */
-static void print_metres(char separator, int32_t value)
-{
-    long size = labs((long)value);
-    printf("%c%s%ld.%04ld", separator, value < 0 ? "-" : "", size / 10000, size % 10000);
-}
-
-static void print_row(char separator, const struct row *row)
-{
-    printf("%u%c", row->slot, separator);
-    print_satellite(row->slot);
-    printf("%c%u%c%u", separator, row->iodn, separator, row->iod_corr);
-    print_metres(separator, row->radial);
-    print_metres(separator, row->along);
-    print_metres(separator, row->cross);
-    print_metres(separator, row->clock);
-    if (row->ura.kind == URA_ABOVE)
-        printf("%cabove", separator);
-    else
-        printf("%c%u.%02u", separator, (unsigned)(row->ura.quarters / 4), (unsigned)(row->ura.quarters % 4 * 25));
-    printf("%c%u%c%u\n", separator, (unsigned)ledger.orbit[row->slot].epoch, separator,
-           (unsigned)ledger.clock[row->slot].epoch);
-}
-
 static void print_rows(char separator, const struct row *rows, size_t count)
 {
-    static const char head[] = "slot sat iodn corr radial_m along_m cross_m clock_m ura_mm orbit_s clock_s\n";
-    for (const char *at = head; *at != 0; at++)
-        putchar(*at == ' ' ? separator : *at);
-    for (size_t i = 0; i < count; i++)
+    print_head(separator, " orbit_s clock_s");
+    for (size_t i = 0; i < count; i++) {
         print_row(separator, &rows[i]);
+        printf("%c%u%c%u\n", separator, (unsigned)ledger.orbit[rows[i].slot].epoch, separator,
+               (unsigned)ledger.clock[rows[i].slot].epoch);
+    }
 }
 
 /* The satellites of the mask in force that have no row. */
@@ -353,29 +325,43 @@ static bool print_unfit(FILE *out, const struct row *rows, size_t count)
     return fit;
 }
 
-int main(int argc, char **argv)
+/* The logs as one stream of frames. */
+static void take_logs(char **names)
 {
-    static struct row rows[ASSIGNED_SLOTS];
-    static uint16_t issues[SLOTS];
     struct bytes log = { 0 };
-    size_t count;
-    unsigned prn;
-    bool fit;
-    int arg = take_options(argv);
 
-    if (argc - arg < 3)
-        usage();
-    prn = is_number(argv[arg]) ? (unsigned)number_of(argv[arg]) : 0;
-    if (ref_open(&ledger, prn) != 0)
-        stop(argv[arg], "no such PRN");
-    read_issues(argv[arg + 1], issues);
-    for (arg += 2; arg < argc; arg++)
-        read_file(argv[arg], &log);
+    for (; *names != NULL; names++)
+        read_file(*names, &log);
     for (size_t at = 0, n; at < log.n; at += n) {
         n = ref_next_piece(log.at + at, log.n - at);
         take_piece(log.at + at, n);
     }
     free(log.at);
+}
+
+int main(int argc, char **argv)
+{
+    static struct row rows[ASSIGNED_SLOTS];
+    static uint16_t issues[SLOTS];
+    size_t count;
+    unsigned prn;
+    bool fit;
+    int arg = take_options(argv);
+
+    program = "night_ref";
+    if (argc - arg < 3)
+        usage();
+    prn = is_number(argv[arg]) ? (unsigned)number_of(argv[arg]) : 0;
+    if (ref_open(&ledger, prn) != 0)
+        stop(argv[arg], "no such PRN");
+    if (strcmp(argv[arg + 1], "none") == 0)
+        no_issues(issues);
+    else
+        read_issues(argv[arg + 1], issues);
+    if (!asked.mixed)
+        take_logs(argv + arg + 2);
+    for (char **name = argv + arg + 2; asked.mixed && *name != NULL; name++)
+        take_mixed(*name, issues);
 
     ref_rows(&ledger, issues, SLOTS, rows, &count);
     if (asked.csv) {

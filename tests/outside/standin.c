@@ -6,22 +6,41 @@
 #include "forms.h"
 #include "quieuvodan.h"
 #include "ref.h"
+#include "sheet.h"
 #include "words.h"
 
 #include <string.h>
 
-_Static_assert(sizeof(struct ledger) <= QVD_LEDGER_BYTES, "the ledger fits its bytes");
+/* Behind the ledgers that are stored here. */
+static const char mark[16] = "the stand-in's";
+
+_Static_assert(sizeof(struct ledger) + sizeof mark <= QVD_LEDGER_BYTES, "the ledger fits its bytes");
+_Static_assert((int)LEDGER_FORM_BYTES == (int)QVD_LEDGER_BYTES, "one length of ledgers");
 _Static_assert((int)ROW_FORM_BYTES == (int)QVD_ROW_BYTES, "one row form");
 _Static_assert((int)CONTENTS_FORM_BYTES == (int)QVD_CONTENTS_BYTES, "one contents form");
 _Static_assert((int)SUBFRAME_BYTES == (int)QVD_D1_BYTES, "one length of subframes");
 _Static_assert((int)SUBFRAME_DATA_BYTES == (int)QVD_D1_DATA_BYTES, "one length of their information");
 _Static_assert((int)CNAV1_BYTES == (int)QVD_CNAV1_BYTES, "one length of B-CNAV1 subframes");
 _Static_assert(8 * (int)CNAV1_FIELDS == (int)QVD_CNAV1_FIELDS_BYTES, "one length of their fields");
+_Static_assert((int)SHEET_HEADER_FORM_BYTES == (int)QVD_SHEET_HEADER_BYTES, "one form of a sheet's header");
+_Static_assert((int)MOST_SHEET_ROWS == (int)QVD_SHEET_ROWS, "one limit of rows");
+_Static_assert(QVD_SHEET_BYTES == SHEET_HEAD_BYTES + SHEET_ROW_BYTES * MOST_SHEET_ROWS + SHEET_END_BYTES, "the longest sheet");
 
 static void store(uint8_t *bytes, const struct ledger *ledger)
 {
     memcpy(bytes, ledger, sizeof *ledger);
     memset(bytes + sizeof *ledger, 0, QVD_LEDGER_BYTES - sizeof *ledger);
+    memcpy(bytes + QVD_LEDGER_BYTES - sizeof mark, mark, sizeof mark);
+}
+
+/* Bytes that were stored here hold the ledger as it is; others have the form of
+ * the library's. */
+static void load(struct ledger *ledger, const uint8_t *bytes)
+{
+    if (memcmp(bytes + QVD_LEDGER_BYTES - sizeof mark, mark, sizeof mark) == 0)
+        memcpy(ledger, bytes, sizeof *ledger);
+    else
+        ledger_from_bytes(bytes, ledger);
 }
 
 uint8_t qvd_open(uint8_t *ledger, size_t n, uint8_t prn)
@@ -42,7 +61,7 @@ uint8_t qvd_take(uint8_t *ledger, size_t n, const uint8_t *frame, size_t m)
     unsigned refusal;
     if (n != QVD_LEDGER_BYTES)
         return 39;
-    memcpy(&l, ledger, sizeof l);
+    load(&l, ledger);
     refusal = ref_take(&l, frame, m);
     if (refusal == 0)
         store(ledger, &l);
@@ -56,7 +75,7 @@ uint32_t qvd_take_detail(uint8_t *ledger, size_t n, const uint8_t *frame, size_t
     unsigned refusal;
     if (n != QVD_LEDGER_BYTES)
         return 39;
-    memcpy(&l, ledger, sizeof l);
+    load(&l, ledger);
     refusal = ref_take_detail(&l, frame, m, &detail);
     if (refusal == 0)
         store(ledger, &l);
@@ -116,7 +135,7 @@ uint8_t qvd_rows(const uint8_t *ledger, size_t n, const uint16_t *issues, size_t
     unsigned refusal;
     if (n != QVD_LEDGER_BYTES || r != QVD_ROWS_BYTES)
         return 39;
-    memcpy(&l, ledger, sizeof l);
+    load(&l, ledger);
     refusal = ref_rows(&l, issues, k, row, &count);
     if (refusal != 0)
         return (uint8_t)refusal;
@@ -134,7 +153,7 @@ uint8_t qvd_row(const uint8_t *ledger, size_t n, const uint16_t *issues, size_t 
     unsigned refusal;
     if (n != QVD_LEDGER_BYTES || r != QVD_ROW_BYTES)
         return 39;
-    memcpy(&l, ledger, sizeof l);
+    load(&l, ledger);
     refusal = ref_row_of(&l, issues, k, slot, &found);
     if (refusal == 0)
         row_to_bytes(&found, row);
@@ -225,4 +244,45 @@ uint8_t qvd_read_cnav1(const uint8_t *subframe, size_t m, uint8_t *fields, size_
 uint8_t qvd_join_issue(uint16_t *issues, size_t k, uint16_t prn, uint16_t iodc)
 {
     return ref_join_issue(issues, k, prn, iodc);
+}
+
+uint32_t qvd_write_sheet(const uint8_t *ledger, size_t n, const uint16_t *issues, size_t k, uint8_t *room, size_t m)
+{
+    struct ledger l;
+    size_t written = 0;
+    unsigned refusal;
+    if (n != QVD_LEDGER_BYTES)
+        return 39;
+    load(&l, ledger);
+    refusal = ref_write_sheet(&l, issues, k, room, m, &written);
+    return beside_to_number(refusal, written);
+}
+
+uint32_t qvd_read_sheet(const uint8_t *sheet, size_t m, uint8_t *header, size_t h, uint8_t *rows, size_t r)
+{
+    static struct sheet read;
+    size_t at = 0;
+    unsigned refusal;
+    if (h != QVD_SHEET_HEADER_BYTES || r != QVD_ROWS_BYTES)
+        return 39;
+    refusal = ref_read_sheet(sheet, m, MOST_SHEET_ROWS, true, &read, &at);
+    if (refusal != 0)
+        return beside_to_number(refusal, at);
+    sheet_header_to_bytes(&read, header);
+    memset(rows, 0, r);
+    for (size_t i = 0; i < read.count; i++)
+        row_to_bytes(&read.row[i], rows + i * QVD_ROW_BYTES);
+    return 0;
+}
+
+uint32_t qvd_check_sheet(const uint8_t *ledger, size_t n, const uint16_t *issues, size_t k, const uint8_t *sheet, size_t m)
+{
+    struct ledger l;
+    size_t beside;
+    unsigned refusal;
+    if (n != QVD_LEDGER_BYTES)
+        return 39;
+    load(&l, ledger);
+    refusal = ref_check_sheet(&l, issues, k, sheet, m, &beside);
+    return beside_to_number(refusal, beside);
 }

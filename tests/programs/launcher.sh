@@ -33,7 +33,9 @@ sleep "${SLOW:-0}"
 echo "rt: tool proved (2 s)"
 [ -x "target/bin/$2" ] || { cp program "target/bin/$2" && chmod +x "target/bin/$2"; }
 END
-chmod +x "$stand/tools/rt"
+# The program that stands in is a script: no emulator may run it, whatever machine this is.
+printf '#!/bin/sh\necho x86_64\n' >"$stand/tools/uname"
+chmod +x "$stand/tools/rt" "$stand/tools/uname"
 
 # stand ARGS..: as call, in the repository that stands in; progress is kept.
 stand() {

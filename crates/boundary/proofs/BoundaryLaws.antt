@@ -18,14 +18,14 @@ use Rattle.row.specs.declared.Row.{Row}
 use Rattle.row.specs.declared.RowAnswer.{RowAnswer}
 use Rattle.row.specs.declared.RowAnswer.the-variants.{Found, Refused}
 use Rattle.flat_forms.specs.Write.{rowBytes, contentsBytes}
-use Rattle.flat_forms.proofs.StoreLaws.{store-two}
+use Rattle.flat_numbers.proofs.StoreLaws.{store-two}
 use Rattle.verdict.specs.Verdict.{numberIn, refusedBy}
 use Rattle.message.specs.Read.{Answer, readMessage}
 use Rattle.frame.specs.Frame.{refusalWith, readWith, readFrame, isPrn}
 use Rattle.frame.proofs.VerdictLaws.{frame-quiet}
 use Rattle.held_mask.specs.Size.{size}
 use Rattle.in_force.specs.Bytes.{fresh, takeSays, takeBytes}
-use Rattle.issues.specs.Issues.{issuesRefusal}
+use Rattle.broadcast.specs.Issues.{issuesRefusal}
 use Rattle.list.specs.Rows.{listIn, rowOfSlotAnswer}
 use Rattle.writing.specs.Write.{writeRefusal, written}
 use Rattle.from_flat.specs.Read.{flatContentsOf}

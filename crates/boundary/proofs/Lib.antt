@@ -4,3 +4,6 @@ pub mod ReplayLaws
 pub mod D1Laws
 pub mod Cnav1Laws
 pub mod MakeLaws
+pub mod SheetLaws
+pub mod CheckSheetLaws
+pub mod AllRows

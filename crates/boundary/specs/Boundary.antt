@@ -1,12 +1,13 @@
 -- The C boundary: what each function answers, and what each lent room then holds. 39 before all else; a refusal leaves the room as it was.
-use Prim.Native.Nat.{ℕ, _+_, _/_}
+use Prim.Native.Nat.{ℕ, _+_, _*_, _/_}
+use mathlib.Core.Path.{_≡_}
 use mathlib.Core.Bool.{Bool, _&&_}
 use mathlib.Core.List.{List, [], _∷_, _++_}
 use mathlib.Core.Option.{Option, none, some}
 use lib.Dec.{eqb}
 use lib.ListN.{length, replicate}
 use Rattle.bits.specs.Pick.{pick}
-use Rattle.bits.specs.Bytes.{storeAt}
+use Rattle.bits.specs.Bytes.{storeAt, rowAt}
 use Rattle.bits.specs.Table.{table}
 use Rattle.verdict.specs.Verdict.{numberIn, refusedBy}
 use Rattle.message.specs.Read.{Answer, readMessage}
@@ -14,7 +15,7 @@ use Rattle.frame.specs.Frame.{readFrame}
 use Rattle.held_mask.specs.Size.{size}
 use Rattle.ledger.specs.Open.{openRefusal, openBytes}
 use Rattle.in_force.specs.Bytes.{fresh, takeSays, takeBytes, frameAt, framesTo, framesOf, runBytes}
-use Rattle.issues.specs.Issues.{issuesRefusal}
+use Rattle.broadcast.specs.Issues.{issuesRefusal}
 use Rattle.list.specs.Rows.{listIn, rowOfSlotAnswer}
 use Rattle.row.specs.declared.Row.{Row}
 use Rattle.writing.specs.Write.{writeRefusal, written}
@@ -95,6 +96,11 @@ rowsAnswer s is room = sized (isRows s room) (issuesRefusal is)
 -- the rows of the list in rising slot order, then zeros
 unfoldable pub rowsRoom : List ℕ → List ℕ → List ℕ → List ℕ
 rowsRoom s is room = pick (eqb (rowsAnswer s is room) 0) (storeAt (replicate rowsSize 0) 0 (rowsBytes (listIn s is))) room
+
+-- 02, CR 11: what is promised of that room: no row is lost by it, it begins with the bytes of all rows of the list
+abbrev pub AllRows : Type 0
+AllRows =
+    (s is room : List ℕ) → rowsAnswer s is room ≡ 0 → rowAt (rowsRoom s is room) 0 (rowSize * length (listIn s is)) ≡ rowsBytes (listIn s is)
 
 -- the lengths that a row asks for: a ledger, and room for one
 abbrev pub isRow : List ℕ → List ℕ → Bool

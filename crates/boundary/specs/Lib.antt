@@ -4,3 +4,4 @@ pub mod Boundary
 pub mod D1
 pub mod Cnav1
 pub mod Make
+pub mod Sheet

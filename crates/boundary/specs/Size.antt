@@ -12,3 +12,7 @@ rowSize = 27
 -- the bytes of 174 rows, as many as a mask has slots that are not reserved
 abbrev pub rowsSize : ℕ
 rowsSize = 174 * rowSize
+
+-- the bytes of what a sheet's header says
+abbrev pub sheetHeaderSize : ℕ
+sheetHeaderSize = 5

@@ -1,15 +1,14 @@
 -- 02, CR 8: a run of errors within 24 neighbouring positions of a message is refused 7.
 use mathlib.Core.Path.{_≡_, refl, sym, _∙_}
-use mathlib.Core.Logic.{_≢_, _⊎_, inl, inr, dite}
+use mathlib.Core.Logic.{_≢_}
 use mathlib.Core.Bool.{Bool, true, false, not}
 use mathlib.Core.List.{List, [], _∷_}
-use Prim.Native.Nat.{ℕ, _+_, _<_, _≤_}
-use native.Mathlib.Decide.{ℕ-discrete}
+use Prim.Native.Nat.{ℕ, _+_}
 use native.Mathlib.Omega.{arith}
 use borrow.Author.Tests.{eq-eqb, eqb-true}
 use lib.Dec.{eqb}
 use lib.ListN.{length}
-use Rattle.bits.specs.Bits.{bitAt, fieldAt}
+use Rattle.bits.specs.Bits.{fieldAt}
 use Rattle.bits.specs.Some.{first}
 use Rattle.bits.proofs.PutLaws.{field-ext}
 use Rattle.check24.specs.Check.{checkOk}
@@ -17,8 +16,8 @@ use Rattle.contents.specs.Parts.{contentsAt}
 use Rattle.judge.specs.Judge.{refusalOf}
 use Rattle.message.specs.Read.{answer, readMessage}
 use Rattle.verdict.proofs.NumberLaws.{number-back}
-use Rattle.bursts.specs.Burst.{refusal, Passes, Run, refusedWith, RunsCaught}
-use Rattle.bursts.proofs.BurstLaws.{burst-caught}
+use Rattle.bursts.specs.Burst.{refusal, Passes, refusedWith, RunsCaught}
+use Rattle.bursts.proofs.RunLaws.{past, run-caught}
 
 -- ---- what reading makes of the length, the two closing bits and the check
 abbrev numberBy : Bool → Bool → Bool → ℕ → ℕ
@@ -46,22 +45,10 @@ wrong-check : (t : List ℕ) → length t ≡ 61 → fieldAt t 486 2 ≡ 0 → c
 unfolding readMessage answer
 wrong-check t a b c = rw (eq-eqb _ _ a, eq-eqb _ _ b, c)
 
--- ---- a bit outside the run is as it was
-module _ {k : ℕ} {s t : List ℕ} (R : Run k s t) where
-  outside : (i : ℕ) → (i < R .first) ⊎ (R .first + k ≤ i) → bitAt s i ≡ bitAt t i
-  outside i o = dite (ℕ-discrete (bitAt s i) (bitAt t i)) (λ e. e) (λ c. let n = R .near i c in absurd (go n o))
-    where
-      go : (R .first ≤ i) × (i < R .first + k) → (i < R .first) ⊎ (R .first + k ≤ i) → ⊥
-      go n (inl l) = omega arith
-      go n (inr l) = omega arith
-
-  closing : (i : ℕ) → 486 ≤ i → bitAt s i ≡ bitAt t i
-  closing i o = dite (ℕ-discrete (bitAt s i) (bitAt t i)) (λ e. e) (λ c. let l = R .inside i c in absurd (let z : ⊥ = omega arith in z))
-
 -- CR 8: a run of errors is always caught
 pub runs-caught : RunsCaught
 runs-caught s t p R =
     let a = passes s p in
     wrong-check t (R .long ∙ a .0)
-    (sym (field-ext s t 486 2 (λ j l. closing R (486 + j) (omega arith))) ∙ a .1)
-    (burst-caught s t 0 462 (R .first) (a .2) (λ i k l o. outside R i o) (R .one) (omega arith) (R .inside (R .one) (R .more)) (R .more))
+    (sym (field-ext s t 486 2 (λ j l. past R (486 + j) (omega arith))) ∙ a .1)
+    (run-caught 462 _ s t (omega arith) R (a .2))

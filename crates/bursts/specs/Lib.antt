@@ -1,1 +1,3 @@
+pub mod Run
 pub mod Burst
+pub mod Subframe2

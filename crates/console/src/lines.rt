@@ -13,7 +13,8 @@ pub enum Step {
     Failed,
 }
 
-// The line is room[start..end], without its line end (LF, or CR LF); what was read after it is room[next..to]. Lines are counted from 1.
+// The line is room[start..end], without its line end (LF, or CR LF); what was read after it is room[next..to]. Lines are counted from 1. A line
+// that is too long has no text here; next is 0 where its end was not read yet.
 pub struct Lines {
     pub step: Step,
     pub start: usize,
@@ -165,8 +166,8 @@ fn numbered(room: &[u8], l: Lines, number: u64) -> Lines
             step: Step::Long,
             start: 0,
             end: 0,
-            next: 0,
-            to: 0,
+            next: l.next,
+            to: l.to,
             number,
         };
     }
@@ -202,6 +203,56 @@ pub fn next_line(fd: i32, room: &mut [u8], l: Lines) -> Lines
     let number = raised(l.number);
     let next = line_after(fd, room, l);
     numbered(room, next, number)
+}
+
+// One read behind a line that is longer than the room: what stands behind its end, or that it has not ended yet.
+fn read_past(fd: i32, room: &mut [u8], number: u64) -> Lines {
+    let p = read_on(fd, room, 0);
+    let to = p.count;
+    let e = line_end(room, 0, to);
+    let mut r = without(past_step(p.failed, e, to));
+    if e < to {
+        r.next = e + 1;
+        r.to = to;
+    }
+    r.number = number;
+    r
+}
+
+// How far such a read came, by whether it failed, the position of a line end, and how much was read.
+fn past_step(failed: bool, end: usize, to: usize) -> Step {
+    if failed {
+        return Step::Failed;
+    }
+    if to == 0 {
+        return Step::End;
+    }
+    if end < to { Step::Line } else { Step::Long }
+}
+
+// Whether the end of a line that is too long is still to come.
+fn is_unended(l: Lines) -> bool {
+    let step = l.step;
+    match step {
+        Step::Line => false,
+        Step::End => false,
+        Step::Long => l.next == 0,
+        Step::Failed => false,
+    }
+}
+
+// After a line that is too long: its rest is passed over, so that the line behind it can come next. After any other nothing is to do.
+pub fn past_long(fd: i32, room: &mut [u8], l: Lines) -> Lines {
+    let mut r = l;
+    let mut more = is_unended(l);
+    let mut left = u64::MAX;
+    while left > 0 && more {
+        let next = read_past(fd, room, l.number);
+        r = next;
+        more = is_unended(next);
+        left -= 1;
+    }
+    r
 }
 
 // Room for the longest line, 65536 bytes, and its line end.

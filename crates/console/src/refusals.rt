@@ -38,7 +38,7 @@ pub fn put_line(room: &mut [u8], at: usize, text: &[u8], number: u8) -> usize
     n
 }
 
-// Refusals of subframes, by their number less 30.
+// Refusals of subframes, of D1 or D2 and of B-CNAV1, by their number less 30.
 fn put_subframe_refusal(room: &mut [u8], at: usize, number: u8) -> usize
     ensures { λ r. ⌜ Counts r (now (room .exit)) ⌝ }
 {
@@ -48,7 +48,10 @@ fn put_subframe_refusal(room: &mut [u8], at: usize, number: u8) -> usize
         b"wrong length, or the four bits after the subframe are not zero\n\
         preamble wrong\n\
         frame is not 1 to 5\n\
-        second of the week above 604799\n",
+        second of the week above 604799\n\
+        not 75 bytes\n\
+        check bits wrong\n\
+        hour of the week above 167\n",
         number,
     )
 }
@@ -81,7 +84,10 @@ pub fn put_refusal(room: &mut [u8], at: usize, number: u8) -> usize
         a field exceeds its width, or no URA code gives the quarters\n\
         an issue is neither 0 to 1023 nor none\n\
         no such row\n\
-        no satellite has the last place from Slot_S on\n",
+        no satellite has the last place from Slot_S on\n\
+        no mask in force\n\
+        more rows than a sheet may have\n\
+        the room is shorter than the sheet\n",
         number,
     )
 }

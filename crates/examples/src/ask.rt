@@ -1,8 +1,9 @@
-// What the list answers to each question, after the first three frames of the whole list.
+// What the list answers to each question, and its correction sheet, after the first three frames of the whole list.
 use crate::cases::opened;
 use crate::cases::take_next;
 use crate::say::say;
 use crate::say::say_number;
+use crate::sheet::say_sheets;
 use ledger::Ledger;
 use list::rows::row_at;
 use list::rows::row_of_slot;
@@ -98,4 +99,5 @@ pub(crate) fn asked() {
     say(b"asked of the whole list:\n");
     ask_good(&ledger, &good);
     ask_ill(&ledger);
+    say_sheets(&ledger, &good);
 }

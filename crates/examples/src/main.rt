@@ -1,10 +1,12 @@
 // Runs 01's examples, of the field, the check, the code word of 000's appendix, messages, and ledgers that take
-// frames. The frames are files, one for each case; tests/outside/make_examples.c says what each must give, and why.
+// frames, and 02's of the correction sheet. The frames are files, one for each case; tests/outside/make_examples.c says
+// what each must give, and why.
 ghost use Prim.Native.Nat.{_<_};
 
 mod ask;
 mod cases;
 mod say;
+mod sheet;
 
 use libc::STDOUT_FILENO;
 use say::say;

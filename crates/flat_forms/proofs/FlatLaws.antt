@@ -14,7 +14,8 @@ use Rattle.contents.specs.declared.parts.OrbitPart.{OrbitPart}
 use Rattle.contents.specs.declared.parts.Contents.{Contents}
 use Rattle.row.specs.declared.Row.{Row}
 use Rattle.flat_forms.specs.Write.{flatClockRow, flatOrbitRow, rowsTo, maskHead, clockHead, orbitHead, flatMaskBytes, clocksBytes, orbitsBytes, contentsBytes, rowList, rowBytes}
-use Rattle.flat_forms.proofs.StoreLaws.{store-two, store-whole, length-rows}
+use Rattle.flat_numbers.proofs.StoreLaws.{store-two, store-whole}
+use Rattle.flat_forms.proofs.StoreLaws.{length-rows}
 
 -- ---- lengths
 pub length-clocks : (ks : List Clock) (n : ℕ) → length (rowsTo (flatClockRow ks) n) ≡ 5 * n

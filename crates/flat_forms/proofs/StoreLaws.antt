@@ -1,32 +1,13 @@
--- Bytes stored one after the other are stored at once; bytes stored over a whole room are the room. For any bytes.
+-- Rows of one length, stored one after the other. For any bytes.
 use mathlib.Core.Path.{_≡_, refl, sym, _∙_}
 use Prim.Native.Nat.{ℕ, zero, suc, _+_, _*_}
-use mathlib.Core.List.{List, [], _∷_, _++_}
-use lib.ListN.{set, length, length-append}
-use lib.Seq.{ext-getD}
-use native.Mathlib.Nat.{add-zero, zero-add}
+use mathlib.Core.List.{List}
+use lib.ListN.{length, length-append}
 use native.Mathlib.Numerals.{add-one}
 use native.Mathlib.Omega.{arith}
 use Rattle.bits.specs.Bytes.{storeAt}
-use Rattle.bits.proofs.ByteLaws.{length-store, store-in}
+use Rattle.flat_numbers.proofs.StoreLaws.{store-append}
 use Rattle.flat_forms.specs.Write.{rowsTo}
-
-pub store-append : (s : List ℕ) (at : ℕ) (xs ys : List ℕ) → storeAt s at (xs ++ ys) ≡ storeAt (storeAt s at xs) (at + length xs) ys
-unfolding storeAt
-store-append s at [] ys = rw (add-zero at)
-store-append s at (x ∷ xs) ys =
-    let e : at + 1 + length xs ≡ at + suc (length xs) = omega arith in
-    store-append (set s at x) (at + 1) xs ys ∙ rw e
-
--- as a function's two stores have it
-pub store-two : (s : List ℕ) (a b : ℕ) (xs ys : List ℕ) → a + length xs ≡ b → storeAt (storeAt s a xs) b ys ≡ storeAt s a (xs ++ ys)
-store-two s a b xs ys e = rw (← e) (sym (store-append s a xs ys))
-
--- a room that the bytes fill
-pub store-whole : (s r : List ℕ) → length s ≡ length r → storeAt s 0 r ≡ r
-store-whole s r e =
-    ext-getD 0 (storeAt s 0 r) r (length-store s 0 r ∙ e)
-    (λ j h. rw (zero-add j) at (store-in s 0 r j (omega arith) (omega (arith, length-store s 0 r))))
 
 -- rows of one length
 module _ (f : ℕ → List ℕ) (w : ℕ) (long : (i : ℕ) → length (f i) ≡ w) where

@@ -3,12 +3,13 @@ ghost use mathlib.Core.Path.{_≡_};
 ghost use Prim.Native.Nat.{_<_};
 ghost use lib.ListN.{getD};
 ghost use Rattle.bits.specs.Bytes.{storeAt};
-ghost use Rattle.records.specs.Signed.{rawHalf};
 ghost use Rattle.flat_forms.specs.Write.{flatClockBytes, flatClockRow, flatOrbitBytes, flatOrbitRow, rowsTo, maskHead, clockHead, orbitHead, flatMaskBytes, clocksBytes, orbitsBytes, contentsBytes, systemOf, rowBytes};
 use contents::parts::ClockPart;
 use contents::parts::Contents;
 use contents::parts::MaskPart;
 use contents::parts::OrbitPart;
+use flat_numbers::raw16;
+use flat_numbers::raw32;
 use records::clock::Clock;
 use records::clock::blank_clock;
 use records::orbit::Orbit;
@@ -17,30 +18,6 @@ use row::Row;
 use slots::System;
 use ura::ura_kind;
 use ura::ura_quarters;
-
-// A number with its sign as two bytes say it.
-fn raw16(z: i16) -> u16
-    ensures { λ r. ⌜ r ≡ rawHalf 32768 z ⌝ }
-{
-    if z < 0 {
-        let d = (-1 - z) as u16;
-        65535 - d
-    } else {
-        z as u16
-    }
-}
-
-// A number with its sign as four bytes say it.
-fn raw32(z: i32) -> u32
-    ensures { λ r. ⌜ r ≡ rawHalf 2147483648 z ⌝ }
-{
-    if z < 0 {
-        let d = (-1 - z) as u32;
-        4294967295 - d
-    } else {
-        z as u32
-    }
-}
 
 // The byte of a system.
 fn system_number(s: System) -> u8

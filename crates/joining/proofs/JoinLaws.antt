@@ -10,7 +10,7 @@ use lib.ListN.{length}
 use borrow.Author.Tests.{eqb-true, not-false, ltb-false}
 use Rattle.bits.specs.Some.{anyOf, first}
 use Rattle.bits.proofs.TestLaws.{none-holds}
-use Rattle.issues.specs.Issues.{isIll, issuesRefusal}
+use Rattle.broadcast.specs.Issues.{isIll, issuesRefusal}
 use Rattle.joining.specs.Join.{joinRefusal}
 
 -- the list's own refusals, by its length and by some entry

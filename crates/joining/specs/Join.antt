@@ -6,7 +6,7 @@ use lib.Dec.{eqb, ltb}
 use lib.ListN.{length, set}
 use Rattle.bits.specs.Pick.{pick}
 use Rattle.bits.specs.Some.{anyOf, first}
-use Rattle.issues.specs.Issues.{isIll}
+use Rattle.broadcast.specs.Issues.{isIll}
 
 -- 02, CR 6: 1 for the list's length, 11 for a PRN not 1 to 63, 17 for an IODC above 1023 or any ill-formed entry; 0 if none applies
 unfoldable pub joinRefusal : List ℕ → ℕ → ℕ → ℕ

@@ -2,7 +2,7 @@
 ghost use mathlib.Core.Path.{_≡_};
 ghost use Rattle.verdict.specs.Verdict.{says, refusedBy};
 ghost use Rattle.joining.specs.Join.{joinRefusal, joined};
-use issues::issues_refusal;
+use broadcast::issues_refusal;
 use verdict::Verdict;
 
 // Why an issue is not joined: 1, 11, 17, lowest first; 0 if it is.

@@ -9,8 +9,8 @@ use native.Mathlib.Omega.{arith}
 use lib.ListN.{length, getD}
 use Rattle.bits.specs.Some.{anyOf}
 use Rattle.lookback.specs.Walk.{toList, nthOf}
-use Rattle.issues.specs.Issues.{isIll, issuesRefusal}
-use Rattle.issues.proofs.IssueLaws.{issues-sound}
+use Rattle.broadcast.specs.Issues.{isIll, issuesRefusal}
+use Rattle.broadcast.proofs.IssueLaws.{issues-sound}
 use Rattle.row.specs.Row.{rowSays, answerOf, rowHeld}
 use Rattle.row.specs.declared.Row.{Row}
 use Rattle.row.specs.declared.RowAnswer.{RowAnswer}

@@ -8,7 +8,7 @@ use lib.ListN.{length}
 use Rattle.bits.specs.Pick.{pick}
 use Rattle.bits.specs.Some.{anyOf, first}
 use Rattle.lookback.specs.Walk.{toList, rows, nthOf}
-use Rattle.issues.specs.Issues.{isIll, issuesRefusal, issueOf}
+use Rattle.broadcast.specs.Issues.{isIll, issuesRefusal, issueOf}
 use Rattle.row.specs.Row.{rowHeld, answerOf}
 use Rattle.row.specs.declared.Row.{Row}
 use Rattle.list.specs.declared.rows.Count.{Count}

@@ -2,7 +2,7 @@
 ghost use mathlib.Core.Path.{_≡_};
 ghost use Rattle.row.specs.Row.{rowSays};
 ghost use Rattle.list.specs.Rows.{foundCount, countSays, countAnswer, rowAtAnswer, rowOfSlotAnswer};
-use issues::issues_refusal;
+use broadcast::issues_refusal;
 use row::RowAnswer;
 use row::slot_row;
 use slots::Slot;

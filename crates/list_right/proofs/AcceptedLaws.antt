@@ -19,7 +19,7 @@ use Rattle.held_orbits.specs.declared.HeldOrbit.{HeldOrbit}
 use Rattle.held_mask.specs.Mask.{HeldMask, noHeldMask, sameMask}
 use Rattle.lookback.specs.Walk.{rows}
 use Rattle.lookback.proofs.WalkLaws.{rows-same}
-use Rattle.issues.specs.Issues.{issueOf}
+use Rattle.broadcast.specs.Issues.{issueOf}
 use Rattle.row.specs.Row.{rowOf}
 use Rattle.row.specs.declared.Row.{Row}
 use Rattle.list_right.specs.InForce.{rowInForce, listInForce}
@@ -61,7 +61,8 @@ refusal-read prn m f c a e = rw (a, e) (go (maskRefusal m c))
     go n = dite (ℕ-discrete n 0) (λ z. rw (eq-eqb n 0 z) (sym z)) (λ z. rw (ne-eqb n 0 z))
 
 module _ (prn : ℕ) where
-  mask-over : (h : List (List ℕ)) (cs : List Contents) → Good prn h cs → Sound cs → maskInForce prn h ≡ maskOver cs
+  -- the mask by looking back, by the contents
+  pub mask-over : (h : List (List ℕ)) (cs : List Contents) → Good prn h cs → Sound cs → maskInForce prn h ≡ maskOver cs
   unfolding maskInForce maskBy maskOver
   mask-over [] [] G S = refl
   mask-over (f ∷ h) (c ∷ cs) G S = rw (mask-over h cs (G .2) (S .2), read-good prn f c (G .0) (G .1) (S .0), G .1)

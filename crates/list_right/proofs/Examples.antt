@@ -1,6 +1,7 @@
 -- 01, Examples to hold against it: the statement holds, computed.
 use mathlib.Core.Path.{_≡_, refl, _∙_}
-use mathlib.Core.List.{[], _∷_}
+use Prim.Native.Nat.{ℕ}
+use mathlib.Core.List.{List, [], _∷_}
 use Rattle.bits.specs.Bits.{bitAt}
 use Rattle.bits.specs.Table.{table}
 use Rattle.bits.specs.Some.{anyOf}
@@ -16,13 +17,15 @@ use Rattle.lookback.specs.Walk.{rowsFrom}
 use Rattle.newest.specs.Newest.{isNewer, replaces}
 use Rattle.held_clocks.specs.Clocks.{clockReplaces}
 use Rattle.held_orbits.specs.Orbits.{orbitReplaces}
-use Rattle.held_mask.specs.Mask.{sameBits, sameMask}
+use Rattle.held_mask.specs.Mask.{heldMask, sameBits, sameMask}
 use Rattle.held_mask.specs.OldForm.{numberOf, packed}
 use Rattle.places.specs.Keeps.{byPlace, bySlot, maskOf, orbitsOf, clocksOf, placeRefusal, maskRefusal}
 use Rattle.row.specs.Row.{isAssigned, usable, agrees, qualifies, rowOf}
+use Rattle.in_force.specs.Back.{maskInForce}
+use Rattle.list_right.specs.Good.{Good}
 use Rattle.list_right.specs.Examples.{one, two, four, other, sent, issues, row19, Hold}
 use Rattle.list_right.proofs.FramesLaws.{frames-good}
-use Rattle.list_right.proofs.AcceptedLaws.{maskOver, orbitOver, clockOver, Sound, listOver, list-over, taken-over, refusal-good}
+use Rattle.list_right.proofs.AcceptedLaws.{maskOver, orbitOver, clockOver, Sound, listOver, mask-over, list-over, taken-over, refusal-good}
 
 -- 8 to 12 do not apply to any of the contents
 judged : (refusalOf other ≡ 0) × (refusalOf four ≡ 0) × (refusalOf two ≡ 0) × (refusalOf one ≡ 0)
@@ -51,6 +54,11 @@ gone-over = refl
 again-over : maskRefusal (maskOver (other ∷ sent)) four ≡ 14
 unfolding placeRefusal maskOver maskOf maskBitsAt bitAt packed numberOf setCount noMask noClocks noOrbits table
 again-over = refl
+
+-- the mask in force after the frames of the whole list is that of its type 1
+pub mask-one : (h : List (List ℕ)) → Good 60 h sent → maskInForce 60 h ≡ heldMask (one .mask)
+unfolding maskOver maskOf
+mask-one h G = mask-over 60 h sent G sound-sent
 
 -- THE EXAMPLES HOLD
 pub examples : Hold

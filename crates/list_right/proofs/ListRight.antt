@@ -12,13 +12,13 @@ use Rattle.lookback.proofs.WalkLaws.{rows-same, rows-found, found-rows, rows-ri
 use Rattle.held_mask.specs.Size.{size}
 use Rattle.in_force.specs.Bytes.{fresh, runBytes, Holds}
 use Rattle.in_force.proofs.BackLaws.{holds-run}
-use Rattle.issues.specs.Issues.{issuesRefusal}
+use Rattle.broadcast.specs.Issues.{issuesRefusal}
 use Rattle.row.specs.Row.{rowOf, answerOf}
 use Rattle.list.specs.Rows.{rowIn, listIn, countSays, countAnswer, rowAtAnswer, rowOfSlotAnswer}
 use Rattle.row.specs.declared.Row.{Row}
 use Rattle.list.specs.declared.rows.Count.the-variants as count
 use Rattle.list.proofs.AnswerLaws.{count-right, at-right, slot-right}
-use Rattle.issues.proofs.IssueLaws.{issues-long}
+use Rattle.broadcast.proofs.IssueLaws.{issues-long}
 use Rattle.list_right.specs.InForce.{qualifiesAfter, rowAfter, rowInForce, listInForce}
 use Rattle.list_right.specs.Right.{qualifying, Serves, Right}
 

@@ -5,7 +5,7 @@ use mathlib.Core.List.{List}
 use mathlib.Core.Option.{Option}
 use Rattle.lookback.specs.Walk.{rows}
 use Rattle.in_force.specs.Back.{maskInForce, orbitInForce, clockInForce}
-use Rattle.issues.specs.Issues.{issueOf}
+use Rattle.broadcast.specs.Issues.{issueOf}
 use Rattle.row.specs.Row.{qualifies, rowFrom, rowOf}
 use Rattle.row.specs.declared.Row.{Row}
 

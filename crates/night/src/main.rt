@@ -1,9 +1,13 @@
 // night [OPTION..] PRN ISSUES LOG..: the frames of the logs go through one ledger; then it is written what the ledger lists, and what not.
 //
 // PRN is that of the correction satellite, 1 to 5 or 59 to 63. ISSUES has a line such as C19 37 for each satellite: the issue of its broadcast
-// message at the end of the logs. The logs are read in their order as one stream; - is standard input.
+// message at the end of the logs; none is no file and no issues, and a file called none is ./none. The logs are read in their order as one
+// stream; - is standard input.
 //
 //   -e                      a line for each frame
+//   -m                      the logs are text, a record to a line: B2B HEX a frame, CNAV1 C19 HEX a subframe 2 of B-CNAV1 heard from that satellite,
+//                           whose issue goes over that of ISSUES, D1 C19 HEX a subframe of D1; HEX is the bytes in hexadecimal digits. Blank lines
+//                           and what stands behind a # say nothing, and a bad line costs itself alone
 //   --csv                   only the table of the rows, with commas
 //   --quiet                 no progress lines
 //   --min-rows N            unfit with fewer rows (1 if not given)
@@ -12,83 +16,39 @@
 //   --max-gap SECONDS       unfit if two neighbouring epochs lie further apart
 //
 // Status: 0 well, 1 an error said on standard error, 2 usage, 3 unfit.
-mod files;
 mod fit;
-mod issue_file;
-mod logs;
 mod options;
 mod report;
 mod rows;
-mod stream;
+mod subframes;
 
-use console::words::Number;
 use libc::STDERR_FILENO;
+use log_files::command::has_words;
+use log_files::command::prn_arg;
+use log_files::command::take_night;
+use log_files::frames::How;
 use options::Options;
-use verdict::Verdict;
 
-// The number that argument i says; 0 where it says none below 256.
-fn prn_arg(i: usize) -> u8 {
-    let v = options::number_arg(i);
-    let Number::Value(x) = v else {
-        return 0;
-    };
-    if x > 255 {
-        return 0;
-    }
-    x as u8
-}
-
-// Argument i is no PRN that a ledger is made for.
-fn say_prn(i: usize) {
-    let mut room = io::buffer();
-    let n = os::arg(i, &mut room);
-    console::say::say_file(
-        b"night",
-        &room[..n],
-        b"no ledger is made for this PRN, only for 1 to 5 and 59 to 63",
-    );
-}
-
-// The logs from argument i on are taken into the ledger; then the list is written. The answer is the status.
-fn take_and_report(prn: u8, issues: [u16; 255], i: usize, count: usize, o: Options) -> u8 {
-    let mut ledger = [0u8; 9216];
-    let v = ledger::open::open(&mut ledger, prn);
-    let Verdict::Taken = v else {
-        return 1;
-    };
-    let mut counts = [0u64; 21];
-    let night = logs::take_logs(i, count, o, &mut ledger, &mut counts);
-    if !night.good {
-        return 1;
-    }
-    report::report(prn, &ledger, &issues, &counts, night.epochs, o)
-}
-
-// The job, with PRN as argument i of count. The answer is the status.
+// The logs go through a ledger, with PRN as argument i of count; then the list is written. The answer is the status.
 fn run(i: usize, count: usize, o: Options) -> u8 {
-    if i > 65535 {
-        return 2;
-    }
-    let prn = prn_arg(i);
-    if !frame::is_prn(prn) {
-        say_prn(i);
+    let how = How {
+        each: o.each,
+        quiet: o.quiet,
+    };
+    let mut ledger = [0u8; 9216];
+    let mut counts = [0u64; 21];
+    let heard = take_night(b"night", i, count, o.mixed, how, &mut ledger, &mut counts);
+    if heard.state == 2 {
         return 1;
     }
-    if !files::all_readable(i + 1, count) {
-        return 1;
-    }
-    let mut issues = [65535u16; 255];
-    if !issue_file::read_issues(i + 1, &mut issues) {
-        return 1;
-    }
-    take_and_report(prn, issues, i + 2, count, o)
+    report::report(prn_arg(i), &ledger, &counts, heard, o)
 }
 
 // How the program is called; the answer is the status.
 fn say_usage() -> u8 {
     io::write_all(
         STDERR_FILENO,
-        b"usage: night [-e] [--csv] [--quiet] [--min-rows N] [--max-refused PERCENT] [--max-age SECONDS] [--max-gap SECONDS] PRN ISSUES LOG..\n",
+        b"usage: night [-e] [-m] [--csv] [--quiet] [--min-rows N] [--max-refused PERCENT] [--max-age SECONDS] [--max-gap SECONDS] PRN ISSUES LOG..\n",
     );
     2
 }
@@ -100,10 +60,7 @@ fn status_of(first: usize, count: usize) -> u8 {
         return 2;
     }
     let i = o.at;
-    if count < 3 {
-        return say_usage();
-    }
-    if i > count - 3 {
+    if !has_words(i, count) {
         return say_usage();
     }
     run(i, count, o)

@@ -1,12 +1,15 @@
 // The options in front of PRN.
 use console::words::Number;
+use inputs::files::is_arg;
+use inputs::files::is_option;
 
-// What was asked for: a line for each frame, the table alone, no progress lines, and the limits; at is the argument after the options. Where
+// What was asked for: a line for each frame, the table alone, no progress lines, mixed logs, and the limits; at is the argument after the options. Where
 // something is wrong with them, it has been said what.
 pub(crate) struct Options {
     pub each: bool,
     pub csv: bool,
     pub quiet: bool,
+    pub mixed: bool,
     pub rows: u32,
     pub percent: u32,
     pub age: u32,
@@ -19,28 +22,14 @@ pub(crate) struct Options {
 // A limit that is not set.
 pub(crate) const NONE: u32 = u32::MAX;
 
-// Whether argument i is a word.
-fn is_arg(i: usize, word: &[u8]) -> bool {
-    let mut room = io::buffer();
-    let n = os::arg(i, &mut room);
-    console::words::same(&room[..n], word)
-}
-
-// Whether argument i begins with a minus sign and is more than that.
-fn is_option(i: usize) -> bool {
-    let mut room = io::buffer();
-    let n = os::arg(i, &mut room);
-    (n > 1) & console::words::starts(&room[..n], b'-')
-}
-
 // The number that argument i says.
-pub(crate) fn number_arg(i: usize) -> Number {
+fn number_arg(i: usize) -> Number {
     let mut room = io::buffer();
     let n = os::arg(i, &mut room);
     console::words::number_of(&room[..n])
 }
 
-// Which option argument i is: 1 to 3 stand alone, 4 to 7 have a number behind them, 8 is none of ours, 0 is no option.
+// Which option argument i is: 1 to 4 stand alone, 5 to 8 have a number behind them, 9 is none of ours, 0 is no option.
 fn option_of(i: usize) -> u8 {
     if !is_option(i) {
         return 0;
@@ -54,19 +43,27 @@ fn option_of(i: usize) -> u8 {
     if is_arg(i, b"--quiet") {
         return 3;
     }
-    if is_arg(i, b"--min-rows") {
+    if is_arg(i, b"-m") {
         return 4;
     }
-    if is_arg(i, b"--max-refused") {
+    limit_of(i)
+}
+
+// Which option with a number behind it argument i is.
+fn limit_of(i: usize) -> u8 {
+    if is_arg(i, b"--min-rows") {
         return 5;
     }
-    if is_arg(i, b"--max-age") {
+    if is_arg(i, b"--max-refused") {
         return 6;
     }
-    if is_arg(i, b"--max-gap") {
+    if is_arg(i, b"--max-age") {
         return 7;
     }
-    8
+    if is_arg(i, b"--max-gap") {
+        return 8;
+    }
+    9
 }
 
 // What is wrong with argument i.
@@ -91,7 +88,8 @@ fn with_word(o: Options, which: u8) -> Options {
     match which {
         1 => r.each = true,
         2 => r.csv = true,
-        _ => r.quiet = true,
+        3 => r.quiet = true,
+        _ => r.mixed = true,
     }
     r
 }
@@ -100,9 +98,9 @@ fn with_word(o: Options, which: u8) -> Options {
 fn with_limit(o: Options, which: u8, x: u32) -> Options {
     let mut r = o;
     match which {
-        4 => r.rows = x,
-        5 => r.percent = x,
-        6 => r.age = x,
+        5 => r.rows = x,
+        6 => r.percent = x,
+        7 => r.age = x,
         _ => r.gap = x,
     }
     r
@@ -117,7 +115,7 @@ fn with_number(o: Options, which: u8, i: usize, count: usize) -> Options {
     let Number::Value(x) = v else {
         return faulty(o, i, b"expected a number after it");
     };
-    if (which == 5) & (x > 100) {
+    if (which == 6) & (x > 100) {
         return faulty(o, i, b"expected 0 to 100 percent after it");
     }
     with_limit(o, which, x)
@@ -140,10 +138,10 @@ fn next_option(o: Options, count: usize) -> Options {
     if which == 0 {
         return ended(o);
     }
-    if which == 8 {
+    if which == 9 {
         return faulty(o, i, b"no such option; night alone says how it is called");
     }
-    if which <= 3 {
+    if which <= 4 {
         return on_to(with_word(o, which), i + 1);
     }
     let r = with_number(o, which, i, count);
@@ -166,6 +164,7 @@ fn no_options(first: usize) -> Options {
         each: false,
         csv: false,
         quiet: false,
+        mixed: false,
         rows: 1,
         percent: NONE,
         age: NONE,

@@ -2,6 +2,7 @@
 ghost use Rattle.io.specs.Counts.{Counts};
 use crate::fit::Found;
 use crate::options::Options;
+use crate::subframes::put_subframes;
 use console::put::cursor_in;
 use console::put::put_byte;
 use console::put::put_bytes;
@@ -11,9 +12,10 @@ use console::refusals::put_refusal;
 use libc::STDERR_FILENO;
 use list::rows::Count;
 use log::epochs::Epochs;
+use log_files::heard::Heard;
 
 // Frames refused, by how many there are and how many were taken.
-fn refused_of(all: u64, taken: u64) -> u64 {
+pub(crate) fn refused_of(all: u64, taken: u64) -> u64 {
     if taken < all { all - taken } else { 0 }
 }
 
@@ -207,21 +209,23 @@ fn write_csv(ledger: &[u8], issues: &[u16; 255], f: Found, o: Options) -> u8 {
 pub(crate) fn report(
     prn: u8,
     ledger: &[u8; 9216],
-    issues: &[u16; 255],
     counts: &[u64; 21],
-    e: Epochs,
+    heard: Heard,
     o: Options,
 ) -> u8 {
-    let f = what_was_found(ledger, issues, counts, e);
+    let issues = heard.issues;
+    let e = heard.epochs;
+    let f = what_was_found(ledger, &issues, counts, e);
     if o.csv {
-        return write_csv(ledger, issues, f, o);
+        return write_csv(ledger, &issues, f, o);
     }
     let mut room = io::large_buffer();
     let a = put_frames(&mut room, prn, counts[20], counts[0]);
     let b = put_refusals(&mut room, a, counts);
-    let c = put_mask(&mut room, b, ledger);
+    let s = put_subframes(&mut room, b, heard, o.mixed);
+    let c = put_mask(&mut room, s, ledger);
     let d = put_epochs(&mut room, c, e);
-    let g = put_list(&mut room, d, ledger, issues, f.rows);
+    let g = put_list(&mut room, d, ledger, &issues, f.rows);
     let n = crate::fit::put_unfit(&mut room, g, f, o);
     if !console::out::write(b"night", &room[..n]) {
         return 1;

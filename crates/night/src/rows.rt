@@ -4,79 +4,13 @@ use absent::Why;
 use console::put::cursor_in;
 use console::put::put_byte;
 use console::put::put_bytes;
-use console::put::put_metres;
-use console::put::put_number;
-use console::put::put_two;
-use console::put::put_ura_mm;
-use row::Row;
 use row::RowAnswer;
 use row::slot_row;
+use row_lines::put_next;
+use row_lines::put_row;
+use row_lines::put_satellite;
+use row_lines::put_words;
 use slots::Slot;
-use slots::System;
-use slots::satellite_of;
-
-// The letter of a system.
-fn letter_of(s: System) -> u8 {
-    match s {
-        System::Reserved => b'?',
-        System::BeiDou => b'C',
-        System::Gps => b'G',
-        System::Galileo => b'E',
-        System::Glonass => b'R',
-    }
-}
-
-// A separator and metres.
-fn put_length(room: &mut [u8], at: usize, by: u8, tenths: i32) -> usize
-    ensures { λ r. ⌜ Counts r (now (room .exit)) ⌝ }
-{
-    let a = put_byte(room, at, by);
-    put_metres(room, a, tenths)
-}
-
-// A separator and a number.
-fn put_next(room: &mut [u8], at: usize, by: u8, x: u64) -> usize
-    ensures { λ r. ⌜ Counts r (now (room .exit)) ⌝ }
-{
-    let a = put_byte(room, at, by);
-    put_number(room, a, x)
-}
-
-// A slot, a separator and its satellite as RINEX names it.
-fn put_satellite(room: &mut [u8], at: usize, by: u8, slot: Slot) -> usize
-    ensures { λ r. ⌜ Counts r (now (room .exit)) ⌝ }
-{
-    let s = satellite_of(slot);
-    let system = s.system;
-    let a = put_number(room, at, slot.0 as u64);
-    let b = put_byte(room, a, by);
-    let c = put_byte(room, b, letter_of(system));
-    put_two(room, c, s.number as u64)
-}
-
-// The values of a row: orbit and clock in metres.
-fn put_values(room: &mut [u8], at: usize, by: u8, r: Row) -> usize
-    ensures { λ r. ⌜ Counts r (now (room .exit)) ⌝ }
-{
-    let a = put_length(room, at, by, r.radial);
-    let b = put_length(room, a, by, r.along);
-    let c = put_length(room, b, by, r.cross);
-    put_length(room, c, by, r.clock)
-}
-
-// A row, without its epochs.
-fn put_row(room: &mut [u8], at: usize, by: u8, r: Row) -> usize
-    ensures { λ r. ⌜ Counts r (now (room .exit)) ⌝ }
-{
-    let slot = r.slot;
-    let ura = r.ura;
-    let a = put_satellite(room, at, by, slot);
-    let b = put_next(room, a, by, r.iodn as u64);
-    let c = put_next(room, b, by, r.corr as u64);
-    let d = put_values(room, c, by, r);
-    let e = put_byte(room, d, by);
-    put_ura_mm(room, e, ura)
-}
 
 // The issue of a slot.
 fn issue_of(issues: &[u16; 255], slot: u8) -> u16 {
@@ -102,26 +36,13 @@ fn put_slot_row(room: &mut [u8], at: usize, by: u8, ledger: &[u8], issue: u16, s
     put_byte(room, c, 10)
 }
 
-// The table's head, with blanks.
-fn put_head(room: &mut [u8], at: usize) -> usize
+// The table's head.
+fn put_head(room: &mut [u8], at: usize, by: u8) -> usize
     ensures { λ r. ⌜ Counts r (now (room .exit)) ⌝ }
 {
-    put_bytes(
-        room,
-        at,
-        b"slot sat iodn corr radial_m along_m cross_m clock_m ura_mm orbit_s clock_s\n",
-    )
-}
-
-// The same with commas.
-fn put_head_csv(room: &mut [u8], at: usize) -> usize
-    ensures { λ r. ⌜ Counts r (now (room .exit)) ⌝ }
-{
-    put_bytes(
-        room,
-        at,
-        b"slot,sat,iodn,corr,radial_m,along_m,cross_m,clock_m,ura_mm,orbit_s,clock_s\n",
-    )
+    let a = row_lines::put_head(room, at, by);
+    let b = put_words(room, a, by, b" orbit_s clock_s");
+    put_byte(room, b, 10)
 }
 
 // The lines of the rows, in rising slot order.
@@ -141,7 +62,7 @@ fn put_lines(room: &mut [u8], at: usize, by: u8, ledger: &[u8], issues: &[u16; 2
 pub(crate) fn put_table(room: &mut [u8], at: usize, ledger: &[u8], issues: &[u16; 255]) -> usize
     ensures { λ r. ⌜ Counts r (now (room .exit)) ⌝ }
 {
-    let a = put_head(room, at);
+    let a = put_head(room, at, b' ');
     put_lines(room, a, b' ', ledger, issues)
 }
 
@@ -149,7 +70,7 @@ pub(crate) fn put_table(room: &mut [u8], at: usize, ledger: &[u8], issues: &[u16
 pub(crate) fn put_csv(room: &mut [u8], ledger: &[u8], issues: &[u16; 255]) -> usize
     ensures { λ r. ⌜ Counts r (now (room .exit)) ⌝ }
 {
-    let a = put_head_csv(room, 0);
+    let a = put_head(room, 0, b',');
     put_lines(room, a, b',', ledger, issues)
 }
 

@@ -16,6 +16,7 @@ ghost use Rattle.boundary.specs.D1.{d1ReadAnswer, d1ReadRoom, d1WriteAnswer, d1
 ghost use Rattle.boundary.specs.Cnav1.{cnav1Answer, cnav1Room, joinAnswer, joinRoom};
 ghost use Rattle.boundary.specs.Make.{makeAnswer, checkAnswer};
 ghost use Rattle.boundary.specs.Boundary.{openAnswer, openRoom, takeAnswer, takeRoom, verdictsOf, replayRefusal, replayAnswer, replayLedger, replayVerdicts, answerBytes, rowsBytes, rowsAnswer, rowsRoom, rowAnswer, rowRoom, readingRoom, readAnswer, readRoom, frameAnswer, frameRoom, writeAnswer, writeRoom};
+use broadcast::issues_refusal;
 use d1_subframes::read_subframe;
 use d1_subframes::write_subframe;
 use flat_forms::put_contents;
@@ -24,7 +25,6 @@ use flat_subframe2::read_fields;
 use frame::is_prn;
 use frame::read_frame;
 use from_flat::contents_of;
-use issues::issues_refusal;
 use joining::join;
 use ledger::open::make_fresh;
 use ledger::replay::frame_count;
@@ -40,17 +40,19 @@ use verdict::Verdict;
 use verdict::number_of;
 use writing::write;
 
+pub mod sheet;
+
 // The bytes of a ledger.
-const LEDGER_SIZE: usize = 9216;
+pub(crate) const LEDGER_SIZE: usize = 9216;
 
 // The bytes of contents.
 const CONTENTS_SIZE: usize = 265;
 
 // The bytes of a row.
-const ROW_SIZE: usize = 27;
+pub(crate) const ROW_SIZE: usize = 27;
 
 // The bytes of all rows: room for 174.
-const ROWS_SIZE: usize = 174 * ROW_SIZE;
+pub(crate) const ROWS_SIZE: usize = 174 * ROW_SIZE;
 
 // What a verdict says in one number: its refusal number, then the first failing group and how many fail, or the number of places.
 fn detail(v: Verdict) -> u32

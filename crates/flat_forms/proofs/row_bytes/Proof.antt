@@ -1,4 +1,4 @@
-use Rattle.flat_forms.proofs.ByteLaws.{high, low, top, mid}
+use Rattle.flat_numbers.proofs.ByteLaws.{high, low, top, mid}
 -- Each byte is its digit; numbers with a sign are what they were before the calls.
 use borrow.Author.Needs.{needs}
 use mathlib.Core.Path.{_≡_, ap, _∙_}

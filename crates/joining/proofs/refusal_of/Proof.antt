@@ -2,7 +2,7 @@ use borrow.Author.Needs.{needs}
 use mathlib.Core.Path.{_≡_, sym, _∙_}
 use mathlib.Core.Bool.{true, false, not, _||_}
 use lib.Dec.{eqb, ltb}
-use Rattle.issues.specs.Issues.{issuesRefusal}
+use Rattle.broadcast.specs.Issues.{issuesRefusal}
 use Rattle.joining.proofs.JoinLaws.{join-1, join-11, join-17, join-0}
 use Rattle.joining.proofs.refusal_of.Statement.{statement}
 use Rattle.joining.proofs.refusal_of.Tie as tie

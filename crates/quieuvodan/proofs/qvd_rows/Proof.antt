@@ -4,7 +4,7 @@ use mathlib.Core.Path.{sym, ap, _∙_}
 use mathlib.Core.List.{List}
 use Rattle.bits.specs.Bytes.{storeAt}
 use Rattle.list.specs.Rows.{listIn}
-use Rattle.issues.proofs.IssueLaws.{issues-long}
+use Rattle.broadcast.proofs.IssueLaws.{issues-long}
 use Rattle.boundary.specs.Boundary.{rowsBytes}
 use Rattle.boundary.proofs.BoundaryLaws.{rows-ledger, rows-size, rows-bad, rows-right}
 use Rattle.quieuvodan.proofs.qvd_rows.Statement.{statement}

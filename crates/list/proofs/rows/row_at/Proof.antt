@@ -10,7 +10,7 @@ use Rattle.row.specs.Row.{rowSays, answerOf}
 use Rattle.list.specs.Rows.{rowIn, listIn}
 use Rattle.row.specs.declared.RowAnswer.the-variants as answer
 use Rattle.list.proofs.AnswerLaws.{at-bad, at-right, found-some, refused-none, row-next}
-use Rattle.issues.proofs.IssueLaws.{issues-long}
+use Rattle.broadcast.proofs.IssueLaws.{issues-long}
 use Rattle.list.proofs.rows.row_at.Statement.{statement}
 use Rattle.list.proofs.rows.row_at.Tie as tie
 

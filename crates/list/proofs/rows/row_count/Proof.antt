@@ -11,7 +11,7 @@ use Rattle.list.specs.Rows.{rowIn, foundCount, countSays}
 use Rattle.row.specs.declared.Row.{Row}
 use Rattle.list.specs.declared.rows.Count.the-variants as count
 use Rattle.list.proofs.AnswerLaws.{count-bad, count-right, count-one, found-le, row-next}
-use Rattle.issues.proofs.IssueLaws.{issues-long}
+use Rattle.broadcast.proofs.IssueLaws.{issues-long}
 use Rattle.list.proofs.rows.row_count.Statement.{statement}
 use Rattle.list.proofs.rows.row_count.Tie as tie
 

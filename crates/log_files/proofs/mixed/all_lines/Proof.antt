@@ -1,0 +1,62 @@
+use borrow.Author.Needs.{needs}
+use mathlib.Core.Path.{_≡_}
+use lib.ListN.{length}
+use Rattle.log_files.proofs.mixed.all_lines.Statement.{statement}
+use Rattle.log_files.proofs.mixed.all_lines.Tie as tie
+
+abbrev Inv-loop : tie.InvT-loop
+Inv-loop program fd name room₀ how ledger₀ counts₀ l₀ h₀ state₀ left₀ room ledger counts l h state left = length room ≡ length room₀
+
+abbrev μ-loop : tie.MeasureT-loop
+μ-loop program fd name room₀ how ledger₀ counts₀ l₀ h₀ state₀ left₀ room ledger counts l h state left = left
+
+begin-requires : tie.Need-begin-requires Inv-loop μ-loop
+begin-requires c κs = search needs
+
+loop-holds : tie.Need-loop-holds Inv-loop μ-loop
+loop-holds c = search needs
+
+line-after-requires : tie.Need-line-after-requires Inv-loop μ-loop
+line-after-requires c κs = search needs
+
+turn-requires : tie.Need-turn-requires Inv-loop μ-loop
+turn-requires c κs = search needs
+
+sub-left : tie.Need-sub-left Inv-loop μ-loop
+sub-left c = search needs
+
+loop-less : tie.Need-loop-less Inv-loop μ-loop
+loop-less c = search needs
+
+loop-again : tie.Need-loop-again Inv-loop μ-loop
+loop-again c = search needs
+
+same-length : tie.Need-same-length Inv-loop μ-loop
+same-length c = search needs
+
+returns : tie.Need-returns Inv-loop μ-loop
+returns c = search needs
+
+same-length-2 : tie.Need-same-length-2 Inv-loop μ-loop
+same-length-2 c = search needs
+
+returns-2 : tie.Need-returns-2 Inv-loop μ-loop
+returns-2 c = search needs
+
+pub all-lines-spec : {M : Type 1} → statement M
+all-lines-spec =
+    tie.close
+    (tie.spec
+    Inv-loop
+    μ-loop
+    begin-requires
+    loop-holds
+    line-after-requires
+    turn-requires
+    sub-left
+    loop-less
+    loop-again
+    same-length
+    returns
+    same-length-2
+    returns-2)

@@ -1,0 +1,71 @@
+use borrow.Author.Needs.{needs}
+use native.Mathlib.Omega.{arith}
+use Prim.Native.Nat.{ℕ, zero, suc, _+_, _*_, _-_, _/_, _%_, _^_, _≤_, _<_}
+use mathlib.Core.Path.{_≡_, sym, ap, _∙_, refl, subst}
+use lib.ListN.{length, getD}
+use Rattle.log_files.proofs.stream.moved.Statement.{statement}
+use Rattle.log_files.proofs.stream.moved.Tie as tie
+use Rattle.log_files.proofs.stream.moved.Reads as reads
+use Rattle.log_files.proofs.stream.moved.Lts as lts
+use Rattle.inputs.proofs.ends.least.Reads as least-reads
+
+abbrev Inv-loop : tie.InvT-loop
+Inv-loop s room₀ to from n i₀ room i = (length room ≡ length room₀) × (to ≤ length room₀) × (from + n ≤ to) × (i ≤ n)
+
+abbrev μ-loop : tie.MeasureT-loop
+μ-loop s room₀ to from n i₀ room i = n - i
+
+least-requires : tie.Need-least-requires Inv-loop μ-loop
+least-requires c κs = search needs
+
+least-requires-2 : tie.Need-least-requires-2 Inv-loop μ-loop
+least-requires-2 c κs = search needs
+
+sub-n : tie.Need-sub-n Inv-loop μ-loop
+sub-n c = search needs
+
+loop-holds : tie.Need-loop-holds Inv-loop μ-loop
+loop-holds c = search needs
+
+add-room : tie.Need-add-room Inv-loop μ-loop
+add-room c = search needs
+
+slice-read-room : tie.Need-slice-read-room Inv-loop μ-loop
+slice-read-room c = search needs
+
+slice-write-room : tie.Need-slice-write-room Inv-loop μ-loop
+slice-write-room c = search needs
+
+add-i : tie.Need-add-i Inv-loop μ-loop
+add-i c = search needs
+
+loop-less : tie.Need-loop-less Inv-loop μ-loop
+loop-less c = search needs
+
+loop-again : tie.Need-loop-again Inv-loop μ-loop
+loop-again c = search needs
+
+same-length : tie.Need-same-length Inv-loop μ-loop
+same-length c = search needs
+
+returns : tie.Need-returns Inv-loop μ-loop
+returns c = search needs
+
+pub moved-spec : {M : Type 1} → statement M
+moved-spec =
+    tie.close
+    (tie.spec
+    Inv-loop
+    μ-loop
+    least-requires
+    least-requires-2
+    sub-n
+    loop-holds
+    add-room
+    slice-read-room
+    slice-write-room
+    add-i
+    loop-less
+    loop-again
+    same-length
+    returns)

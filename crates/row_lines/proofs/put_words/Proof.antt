@@ -1,0 +1,61 @@
+use Rattle.io.proofs.Counting.{counts}
+use borrow.Author.Needs.{needs}
+use native.Mathlib.Omega.{arith}
+use Prim.Native.Nat.{_-_, _≤_}
+use mathlib.Core.Path.{_≡_}
+use lib.ListN.{length}
+use Rattle.row_lines.proofs.put_words.Statement.{statement}
+use Rattle.row_lines.proofs.put_words.Tie as tie
+
+abbrev Inv-loop : tie.InvT-loop
+Inv-loop room₀ at by text n₀ i₀ room n i = (length room ≡ length room₀) × (n ≤ length room) × (i ≤ length text)
+
+abbrev μ-loop : tie.MeasureT-loop
+μ-loop room₀ at by text n₀ i₀ room n i = length text - i
+
+cursor-in-requires : tie.Need-cursor-in-requires Inv-loop μ-loop
+cursor-in-requires c κs = search needs
+
+loop-holds : tie.Need-loop-holds Inv-loop μ-loop
+loop-holds c = search needs
+
+shared-slice-read-separated : tie.Need-shared-slice-read-separated Inv-loop μ-loop
+shared-slice-read-separated c = search needs
+
+separated-requires : tie.Need-separated-requires Inv-loop μ-loop
+separated-requires c κs = search needs
+
+put-byte-requires : tie.Need-put-byte-requires Inv-loop μ-loop
+put-byte-requires c κs = search needs
+
+add-i : tie.Need-add-i Inv-loop μ-loop
+add-i c = search needs
+
+loop-less : tie.Need-loop-less Inv-loop μ-loop
+loop-less c = search needs
+
+loop-again : tie.Need-loop-again Inv-loop μ-loop
+loop-again c = search needs
+
+same-length : tie.Need-same-length Inv-loop μ-loop
+same-length c = search needs
+
+returns : tie.Need-returns Inv-loop μ-loop
+returns c = counts _ _ (omega arith)
+
+pub put-words-spec : {M : Type 1} → statement M
+put-words-spec =
+    tie.close
+    (tie.spec
+    Inv-loop
+    μ-loop
+    cursor-in-requires
+    loop-holds
+    shared-slice-read-separated
+    separated-requires
+    put-byte-requires
+    add-i
+    loop-less
+    loop-again
+    same-length
+    returns)

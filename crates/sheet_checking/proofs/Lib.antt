@@ -1,0 +1,4 @@
+pub mod SameLaws
+pub mod CheckLaws
+pub mod CountLaws
+pub mod AnswerLaws

@@ -1,0 +1,4 @@
+pub mod Allowed
+pub mod Sheets
+pub mod MoreRows
+pub mod Checked

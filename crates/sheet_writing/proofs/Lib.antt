@@ -1,0 +1,2 @@
+mod WalkLaws
+mod AnswerLaws
