@@ -72,7 +72,8 @@ module _ {M : Type 1} (𝓤 : URA M) (H : Heap 𝓤) (A : Atoms 𝓤) (mem : Mem
   abbrev Asked : Contract 𝓤
   Asked = tripleOf 𝓤 H A asked.signature (asked.spec 𝓤 H A mem run)
 
-module _ {M : Type 1} (𝓤 : URA M) (H : Heap 𝓤) (A : Atoms 𝓤) (W : Given 𝓤 H A) (mem : Memory → SProp 𝓤) (run : Routine → Fun 𝓤) (κ : Lft) (q : Share) (s : RefT (List ℕ)) (n : ℕ) (ok : n < 2 ^ 32) where
+module _ {M : Type 1} (𝓤 : URA M) (H : Heap 𝓤) (A : Atoms 𝓤) (W : Given 𝓤 H A) (mem : Memory → SProp 𝓤) (run : Routine → Fun 𝓤) (κ : Lft) (q : Share)
+    (s : RefT (List ℕ)) (n : ℕ) (ok : n < 2 ^ 32) where
   -- the machine value that s has
   abbrev v : Val
   v = sliceVal (s .ptr) (length (s .now))
@@ -98,44 +99,67 @@ module _ {M : Type 1} (𝓤 : URA M) (H : Heap 𝓤) (A : Atoms 𝓤) (W : Given
   goes-made =
       qed W ((‵ (flft κ q) ⊛ ‵ ftrue) ∷ ‵ (owns (ShrSlice (named 0) κ u8 ∷ u32 ∷ []) (s, (n, tt)) at) ∷ []) ∵
       move ! (1 ∷ []) $ fsplit ! $ use1 W (‵ Own ⊛ ‵ Own) (shr-slice-copy 𝓤 H A W (named 0) κ u8 .twice s (v ∷ [])) $ split ! $
-      move ! (0 ∷ 2 ∷ []) $ fjoin ! $ move ! (2 ∷ 0 ∷ []) $ use2 W (raw (Made 𝓤 H A mem run .pre to-made)) (qed W ((‵ (flft κ q) ⊛ ‵ ftrue) ∷ ‵ (owns (ShrSlice (named 0) κ u8 ∷ u32 ∷ []) (s, (n, tt)) at) ∷ []) ∵ join ! $ frame ! $ done !) $ frame ! $ done !
+      move ! (0 ∷ 2 ∷ []) $ fjoin ! $ move ! (2 ∷ 0 ∷ []) $
+      use2 W (raw (Made 𝓤 H A mem run .pre to-made)) (qed W ((‵ (flft κ q) ⊛ ‵ ftrue) ∷ ‵ (owns (ShrSlice (named 0) κ u8 ∷ u32 ∷ []) (s, (n, tt)) at) ∷ []) ∵
+      join ! $ frame ! $ done !) $ frame ! $ done !
 
-  made-said : (r : SheetReader) → ent 𝓤 (ensured 𝓤 H A made.ended (made.clauses 𝓤 H A mem run) (κ, tt) (s, (n, tt)) tt r) (fact 𝓤 ((r .sheet ≡ s) × (r .at ≡ n)))
+  made-said : (r : SheetReader)
+      → ent 𝓤 (ensured 𝓤 H A made.ended (made.clauses 𝓤 H A mem run) (κ, tt) (s, (n, tt)) tt r) (fact 𝓤 ((r .sheet ≡ s) × (r .at ≡ n)))
   made-said r = exE 𝓤 _ (λ ws. snd∗ 𝓤 (sem 𝓤 H A (lasts made.ended (κ, tt) (s, (n, tt)) ws)) (fact 𝓤 ((r .sheet ≡ s) × (r .at ≡ n))))
 
   -- the call of `next`, at the struct r with the machine value u
   abbrev to-asked : SheetReader → Val → Asked 𝓤 H A mem run .Ghost
   to-asked r u = (((κ, tt), (q, tt), tt, (r, tt), (u ∷ [], tt)), tt)
 
-  goes-asked : (r : SheetReader) (u : Val) → ent 𝓤 (⋆ 𝓤 H A (‵ (B (κ, tt) .own r (u ∷ [])) ∷ (‵ (flft κ q) ⊛ ‵ ftrue) ∷ [])) (Asked 𝓤 H A mem run .pre (to-asked r u))
-  goes-asked r u = qed W (‵ (B (κ, tt) .own r (u ∷ [])) ∷ (‵ (flft κ q) ⊛ ‵ ftrue) ∷ []) ∵ nothing ! $ move ! (1 ∷ 0 ∷ []) $ fjoin ! $ move ! (1 ∷ 0 ∷ []) $ join ! $ frame ! $ done !
+  goes-asked : (r : SheetReader) (u : Val)
+      → ent 𝓤 (⋆ 𝓤 H A (‵ (B (κ, tt) .own r (u ∷ [])) ∷ (‵ (flft κ q) ⊛ ‵ ftrue) ∷ [])) (Asked 𝓤 H A mem run .pre (to-asked r u))
+  goes-asked r u = qed W (‵ (B (κ, tt) .own r (u ∷ [])) ∷ (‵ (flft κ q) ⊛ ‵ ftrue) ∷ []) ∵ nothing ! $ move ! (1 ∷ 0 ∷ []) $ fjoin ! $ move ! (1 ∷ 0 ∷ []) $
+      join ! $ frame ! $ done !
 
-  asked-said : (r : SheetReader) (t : NextRow) → ent 𝓤 (ensured 𝓤 H A asked.ended (asked.clauses 𝓤 H A mem run) (κ, tt) (r, tt) tt t) (fact 𝓤 (nextSays t ≡ nextFound (now (r .sheet)) (r .at)))
+  asked-said : (r : SheetReader) (t : NextRow)
+      → ent 𝓤 (ensured 𝓤 H A asked.ended (asked.clauses 𝓤 H A mem run) (κ, tt) (r, tt) tt t) (fact 𝓤 (nextSays t ≡ nextFound (now (r .sheet)) (r .at)))
   asked-said r t = exE 𝓤 _ (λ ws. snd∗ 𝓤 (sem 𝓤 H A (lasts asked.ended (κ, tt) (r, tt) ws)) (fact 𝓤 (nextSays t ≡ nextFound (now (r .sheet)) (r .at))))
 
-  exits : (t : NextRow) (u : Val) → nextSays t ≡ nextFound (now s) n → ent 𝓤 (⋆ 𝓤 H A (‵ (S.the-row .own t (u ∷ [])) ∷ (‵ (flft κ q) ⊛ ‵ ftrue) ∷ ‵ Own ∷ [])) (Post u)
+  exits : (t : NextRow) (u : Val) → nextSays t ≡ nextFound (now s) n
+      → ent 𝓤 (⋆ 𝓤 H A (‵ (S.the-row .own t (u ∷ [])) ∷ (‵ (flft κ q) ⊛ ‵ ftrue) ∷ ‵ Own ∷ [])) (Post u)
   exits t u e =
       qed W (‵ (S.the-row .own t (u ∷ [])) ∷ (‵ (flft κ q) ⊛ ‵ ftrue) ∷ ‵ Own ∷ []) ∵
-      suffices ! _ (ends-at 𝓤 H A fn.ended stayed (fn.clauses 𝓤 H A mem run) W (((κ, tt), (q, tt), tt, (s, (n, tt)), at), tt) u t (tt, (tt, tt)) (tt, (tt, tt))) $ says ! e $
-      move ! (1 ∷ []) $ frame ! $ nothing ! $ owned ! u32 (Is u32) (uint-makes 𝓤 H A W w32) n _ (refl, ok) $ fjoin ! $ move ! (2 ∷ 0 ∷ []) $ fjoin ! $ frame ! $ done !
+      suffices ! _
+      (ends-at 𝓤 H A fn.ended stayed (fn.clauses 𝓤 H A mem run) W (((κ, tt), (q, tt), tt, (s, (n, tt)), at), tt) u t (tt, (tt, tt)) (tt, (tt, tt))) $ says ! e $
+      move ! (1 ∷ []) $ frame ! $ nothing ! $ owned ! u32 (Is u32) (uint-makes 𝓤 H A W w32) n _ (refl, ok) $ fjoin ! $ move ! (2 ∷ 0 ∷ []) $ fjoin ! $ frame ! $
+      done !
 
-  module _ (C : Calls 𝓤 H) (Λ : Loops 𝓤 H) (fm : FmC 𝓤 H (W .laws) C) (known-made : Triple 𝓤 (C #reader-at) (Made 𝓤 H A mem run)) (known-asked : Triple 𝓤 (C #next) (Asked 𝓤 H A mem run)) where
-    walk : Is (ShrSlice (named 0) κ u8) s (v ∷ []) → ent 𝓤 (onEntry 𝓤 H A fn.signature (κ, tt) (q, tt) (s, (n, tt)) at) (WpFn 𝓤 H C Λ code.function (v ∷ vint w32 n ∷ []) Post)
+  module _ (C : Calls 𝓤 H) (Λ : Loops 𝓤 H) (fm : FmC 𝓤 H (W .laws) C) (known-made : Triple 𝓤 (C #reader-at) (Made 𝓤 H A mem run))
+      (known-asked : Triple 𝓤 (C #next) (Asked 𝓤 H A mem run)) where
+    walk : Is (ShrSlice (named 0) κ u8) s (v ∷ [])
+        → ent 𝓤 (onEntry 𝓤 H A fn.signature (κ, tt) (q, tt) (s, (n, tt)) at) (WpFn 𝓤 H C Λ code.function (v ∷ vint w32 n ∷ []) Post)
     walk p =
         qed W (raw (onEntry 𝓤 H A fn.signature (κ, tt) (q, tt) (s, (n, tt)) at) ∷ []) ∵ enter ! C Λ code.function (v ∷ vint w32 n ∷ []) _ $
         alloc1 ! (λ l₀. alloc1 ! (λ l₁. alloc1 ! (λ l₂. alloc1 ! (λ l₃. alloc0 ! $ params1 ! $
-        pass1 ! (init ! 4 refl (shr-slice-lawful 𝓤 H A W (named 0) κ u8 .typed s (v ∷ []) p .0)) $ pass1 ! (init ! 2 refl (tt, record { fits = ok })) $ pass0 ! $
+        pass1 ! (init ! 4 refl (shr-slice-lawful 𝓤 H A W (named 0) κ u8 .typed s (v ∷ []) p .0)) $ pass1 ! (init ! 2 refl (tt, record { fits = ok })) $
+        pass0 ! $
         move ! (8 ∷ []) $ use1 W (raw (Made 𝓤 H A mem run .pre to-made) ⊛ ‵ Own) goes-made $ split ! $
-        calls-at ! fm (Made 𝓤 H A mem run) known-made to-made (and-then ! (load ! (from ! (stop !)) (look ! 6 refl)) (and-then ! (load ! (from ! (stop !)) (look ! 4 refl)) (no-more !))) (λ u.
-        use1 W (later (some (λ (r : SheetReader). ((‵ (flft κ q) ⊛ ‵ ftrue) ⊛ ‵ (B (κ, tt) .own r (u ∷ []))) ⊛ raw (ensured 𝓤 H A made.ended (made.clauses 𝓤 H A mem run) (κ, tt) (s, (n, tt)) tt r)))) (id⊢ 𝓤 _) $ await ! tt $ pick ! (λ r.
-        split ! $ move ! (1 ∷ []) $ use1 W (raw (fact 𝓤 ((r .sheet ≡ s) × (r .at ≡ n)))) (made-said r) $ heard ! ((r .sheet ≡ s) × (r .at ≡ n)) (λ e. split ! $ move ! (1 ∷ []) $
+        calls-at ! fm (Made 𝓤 H A mem run) known-made to-made
+        (and-then ! (load ! (from ! (stop !)) (look ! 6 refl)) (and-then ! (load ! (from ! (stop !)) (look ! 4 refl)) (no-more !))) (λ u.
+        use1 W
+        (later
+        (some
+        (λ (r : SheetReader). ((‵ (flft κ q) ⊛ ‵ ftrue) ⊛ ‵ (B (κ, tt) .own r (u ∷ []))) ⊛ raw
+        (ensured 𝓤 H A made.ended (made.clauses 𝓤 H A mem run) (κ, tt) (s, (n, tt)) tt r)))) (id⊢ 𝓤 _) $ await ! tt $ pick ! (λ r.
+        split ! $ move ! (1 ∷ []) $ use1 W (raw (fact 𝓤 ((r .sheet ≡ s) × (r .at ≡ n)))) (made-said r) $ heard ! ((r .sheet ≡ s) × (r .at ≡ n)) (λ e. split ! $
+        move ! (1 ∷ []) $
         -- [what the struct owns; the token; what s owns; room for _3; …; _2; …; _1; …; room for _0; …]
         peeks ! (B (κ, tt)) (Is (B (κ, tt))) (shows 𝓤 H A (B (κ, tt))) r (u ∷ []) (λ is.
         land ! (from ! (stop !)) (init ! 3 refl (LL.lawful (T.the-type αᵉ) (T′.the-laws αᵉ) 𝓤 H A W .typed r _ is .0)) $
         use2 W (raw (Asked 𝓤 H A mem run .pre (to-asked r u))) (goes-asked r u) $
         calls-at ! fm (Asked 𝓤 H A mem run) known-asked (to-asked r u) (and-then ! (load ! (from ! (stop !)) (look ! 2 refl)) (no-more !)) (λ u′.
-        use1 W (later (some (λ (t : NextRow). ((‵ (flft κ q) ⊛ ‵ ftrue) ⊛ ‵ (S.the-row .own t (u′ ∷ []))) ⊛ raw (ensured 𝓤 H A asked.ended (asked.clauses 𝓤 H A mem run) (κ, tt) (r, tt) tt t)))) (id⊢ 𝓤 _) $ await ! tt $ pick ! (λ t.
-        split ! $ move ! (1 ∷ []) $ use1 W (raw (fact 𝓤 (nextSays t ≡ nextFound (now (r .sheet)) (r .at)))) (asked-said r t) $ heard ! (nextSays t ≡ nextFound (now (r .sheet)) (r .at)) (λ e′. split ! $ move ! (1 ∷ []) $
+        use1 W
+        (later
+        (some
+        (λ (t : NextRow). ((‵ (flft κ q) ⊛ ‵ ftrue) ⊛ ‵ (S.the-row .own t (u′ ∷ []))) ⊛ raw
+        (ensured 𝓤 H A asked.ended (asked.clauses 𝓤 H A mem run) (κ, tt) (r, tt) tt t)))) (id⊢ 𝓤 _) $ await ! tt $ pick ! (λ t.
+        split ! $ move ! (1 ∷ []) $ use1 W (raw (fact 𝓤 (nextSays t ≡ nextFound (now (r .sheet)) (r .at)))) (asked-said r t) $
+        heard ! (nextSays t ≡ nextFound (now (r .sheet)) (r .at)) (λ e′. split ! $ move ! (1 ∷ []) $
         -- [the result; the token; what s owns; _3; …; _2; …; _1; …; room for _0; …]
         peeks ! S.the-row (Is S.the-row) (shows 𝓤 H A S.the-row) t (u′ ∷ []) (λ is′.
         land ! (from ! (stop !)) (init ! 9 refl (EL.lawful S.the-type S′.the-laws 𝓤 H A W tt .typed t _ is′ .0)) $
@@ -146,13 +170,18 @@ module _ {M : Type 1} (𝓤 : URA M) (H : Heap 𝓤) (A : Atoms 𝓤) (W : Given
 module _ {M : Type 1} (𝓤 : URA M) (H : Heap 𝓤) (A : Atoms 𝓤) (W : Given 𝓤 H A) (mem : Memory → SProp 𝓤) (run : Routine → Fun 𝓤) where
   walks : (C : Calls 𝓤 H) (Λ : Loops 𝓤 H) → FmC 𝓤 H (W .laws) C → Triple 𝓤 (C #reader-at) (Made 𝓤 H A mem run) → Triple 𝓤 (C #next) (Asked 𝓤 H A mem run)
       → Walks 𝓤 H A fn.ended stayed (WpFn 𝓤 H C Λ code.function) (fn.clauses 𝓤 H A mem run)
-  walks C Λ fm known-made known-asked = walked 𝓤 H A fn.ended stayed (fn.clauses 𝓤 H A mem run) (WpFn 𝓤 H C Λ code.function) (λ κs. (slice-vals, (uint-vals w32, tt))) (λ κs. (shr-slice-tells (named 0) (κs .0) u8, (uint-tells w32, tt)))
-      (λ κs qs bounds a g are. via 𝓤 _ (fst∗ 𝓤 _ (emp 𝓤)) (walk 𝓤 H A W mem run (κs .0) (qs .0) (a .0) (a .1 .0) (are .1 .0 .1) C Λ fm known-made known-asked (are .0)))
+  walks C Λ fm known-made known-asked =
+      walked 𝓤 H A fn.ended stayed (fn.clauses 𝓤 H A mem run) (WpFn 𝓤 H C Λ code.function) (λ κs. (slice-vals, (uint-vals w32, tt)))
+      (λ κs. (shr-slice-tells (named 0) (κs .0) u8, (uint-tells w32, tt)))
+      (λ κs qs bounds a g are. via 𝓤 _ (fst∗ 𝓤 _ (emp 𝓤))
+      (walk 𝓤 H A W mem run (κs .0) (qs .0) (a .0) (a .1 .0) (are .1 .0 .1) C Λ fm known-made known-asked (are .0)))
 
 meets : {M : Type 1} (𝓤 : URA M) (H : Heap 𝓤) (A : Atoms 𝓤) (W : Given 𝓤 H A) (mem : Memory → SProp 𝓤) (run : Routine → Fun 𝓤) (𝓣 : Tables 𝓤 H)
     → Triple 𝓤 (𝓣 .C #reader-at) (Made 𝓤 H A mem run) → Triple 𝓤 (𝓣 .C #next) (Asked 𝓤 H A mem run)
     → Meets 𝓤 H A fn.signature (WpFn 𝓤 H (𝓣 .C) (𝓣 .Λ) code.function) (fn.spec 𝓤 H A mem run)
-meets 𝓤 H A W mem run 𝓣 known-made known-asked = walk-meets 𝓤 H A fn.ended stayed W (goes-none-slice 𝓤 H A W 1 (0 ∷ []) tt (plain (λ _. u8)) yes, (goes-none 𝓤 H A W 1 (λ _. u32) yes (λ κs x f. refl), tt)) (fn.clauses 𝓤 H A mem run) (WpFn 𝓤 H (𝓣 .C) (𝓣 .Λ) code.function) (WpFn-mono 𝓤 H (W .laws) 𝓣 code.function)
+meets 𝓤 H A W mem run 𝓣 known-made known-asked =
+    walk-meets 𝓤 H A fn.ended stayed W (goes-none-slice 𝓤 H A W 1 (0 ∷ []) tt (plain (λ _. u8)) yes, (goes-none 𝓤 H A W 1 (λ _. u32) yes (λ κs x f. refl), tt))
+    (fn.clauses 𝓤 H A mem run) (WpFn 𝓤 H (𝓣 .C) (𝓣 .Λ) code.function) (WpFn-mono 𝓤 H (W .laws) 𝓣 code.function)
     (walks 𝓤 H A W mem run (𝓣 .C) (𝓣 .Λ) (fmOf 𝓤 H (W .laws) 𝓣) known-made known-asked)
 
 pub next-row-spec : {M : Type 1} → stated.statement M
