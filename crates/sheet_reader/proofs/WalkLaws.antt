@@ -1,8 +1,10 @@
 -- Laws of a reader's walk: what it finds at a place, where it goes from there, and the rows that it gives.
-use Prim.Native.Nat.{ℕ, zero, suc, _+_, _*_, _≤_, _<_}
+use Prim.Native.Nat.{ℕ, zero, suc, _+_, _-_, _*_, _≤_, _<_}
 use mathlib.Core.Path.{_≡_, refl, sym, ap, _∙_}
+use mathlib.Core.Logic.{dite}
 use mathlib.Core.List.{List, [], _∷_}
 use mathlib.Core.Option.{Option, none, some}
+use native.Mathlib.Decide.{decLt}
 use native.Mathlib.Omega.{arith}
 use borrow.Author.Tests.{le-ltb, lt-ltb}
 use Rattle.row.specs.declared.Row.{Row}
@@ -32,6 +34,15 @@ module _ (s : List ℕ) (at : ℕ) where
   pub place-kept : rowsEnd s ≤ at → placeAfter s at ≡ at
   unfolding placeAfter
   place-kept h = rw (le-ltb at (rowsEnd s) h)
+
+  -- a row was found: it was due
+  found-due : {r : Row} → nextFound s at ≡ some r → at < rowsEnd s
+  found-due e =
+      dite (decLt at (rowsEnd s)) (λ h. h) (λ h. let f = found-none (omega arith) in let z : _≡_ {A = ℕ} 0 1 = cc in absurd (omega arith))
+
+  -- after each row that is found less is left to the end of the rows: a walk ends
+  pub less-left : {r : Row} → nextFound s at ≡ some r → rowsEnd s - placeAfter s at < rowsEnd s - at
+  less-left e = let h = found-due e in rw (place-on h) (omega arith)
 
 module _ (s : List ℕ) where
   -- a reader at the place of the n-th row from the last gives these n rows
