@@ -6,12 +6,16 @@ use console::put::put_byte;
 use console::put::put_bytes;
 use console::put::put_field;
 use console::put::put_number;
+use row::Row;
 use row_lines::put_head;
 use row_lines::put_row;
 use sheet_form::Header;
+use sheet_reader::FIRST_ROW;
+use sheet_reader::NextRow;
+use sheet_reader::next_place;
+use sheet_reader::next_row;
 use sheet_reading::SheetRead;
 use sheet_reading::read_sheet;
-use sheet_reading::row_said;
 use sheet_writing::MOST_ROWS;
 
 // What the header says of the mask.
@@ -33,37 +37,38 @@ fn put_header(room: &mut [u8], h: Header) -> usize
     put_byte(room, d, 10)
 }
 
-// The line of row k, from 0.
-fn put_nth(room: &mut [u8], at: usize, sheet: &[u8], k: u16) -> usize
+// The line of a row.
+fn put_line(room: &mut [u8], at: usize, row: Row) -> usize
     ensures { λ r. ⌜ Counts r (now (room .exit)) ⌝ }
 {
-    let row = row_said(sheet, 8 + 24 * (k as u32));
     let a = put_row(room, at, b' ', row);
     put_byte(room, a, 10)
 }
 
-// The lines of so many rows.
-fn put_rows(room: &mut [u8], at: usize, sheet: &[u8], rows: u16) -> usize
+// The lines of a sheet's rows: a reader of the sheet is asked for the next row and moved on, until it is done.
+fn put_rows(room: &mut [u8], at: usize, sheet: &[u8]) -> usize
     ensures { λ r. ⌜ Counts r (now (room .exit)) ⌝ }
 {
     let mut n = cursor_in(room, at);
-    let mut k: u16 = 0;
-    while k < rows {
-        n = put_nth(room, n, sheet, k);
-        k += 1;
+    let mut place = FIRST_ROW;
+    loop {
+        let next = next_row(sheet, place);
+        let NextRow::Found(row) = next else {
+            return n;
+        };
+        n = put_line(room, n, row);
+        place = next_place(sheet, place);
     }
-    n
 }
 
 // The lines of a sheet that is read.
 fn put_sheet(room: &mut [u8], sheet: &[u8], h: Header) -> usize
     ensures { λ r. ⌜ Counts r (now (room .exit)) ⌝ }
 {
-    let rows = h.rows;
     let a = put_header(room, h);
     let b = put_head(room, a, b' ');
     let c = put_byte(room, b, 10);
-    put_rows(room, c, sheet, rows)
+    put_rows(room, c, sheet)
 }
 
 // The line of a sheet that is wrong at an offset.
