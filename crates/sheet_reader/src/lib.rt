@@ -31,11 +31,10 @@ fn rows_end(sheet: &[u8]) -> u32
 fn found_at(sheet: &[u8], at: u32) -> NextRow
     ensures { λ r. ⌜ nextSays r ≡ nextFound (now (sheet .entry)) at ⌝ }
 {
-    if at < rows_end(sheet) {
-        NextRow::Found(row_said(sheet, at))
-    } else {
-        NextRow::Done
+    if rows_end(sheet) <= at {
+        return NextRow::Done;
     }
+    NextRow::Found(row_said(sheet, at))
 }
 
 // The place of the next row; where no row is left, the same place.
