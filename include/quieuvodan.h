@@ -1,8 +1,8 @@
 /* Quieuvodan: BeiDou PPP-B2b messages read and written, frames made, checked and
- * kept in a ledger, and the list of the satellites that qualify; the list as a
- * correction sheet, written, read and checked; subframes of the D1 and D2
- * messages; and subframe 2 of B-CNAV1, whose IODC is joined into the issue list.
- * For C and C++.
+ * kept in a ledger, or in a table of ledgers for several correction satellites at
+ * once, and the list of the satellites that qualify; the list as a correction
+ * sheet, written, read and checked; subframes of the D1 and D2 messages; and
+ * subframe 2 of B-CNAV1, whose IODC is joined into the issue list. For C and C++.
  *
  * Link with libquieuvodan.a (x86-64 Linux), which `rt staticlib quieuvodan`
  * writes to target/staticlib/. It uses memcpy and memset of the C library and
@@ -15,12 +15,14 @@
  * refusal number, the lowest that applies. That number is what it returns, save
  * that qvd_take_detail, qvd_read_frame_detail and qvd_check_frame put more above
  * it for two of the refusals, that the three functions on sheets put an offset, a
- * row, a length or a count above it, and that qvd_next_piece returns a length and
+ * row, a length or a count above it, that the functions qvd_table_.. do as those
+ * without `table_` in their name, and that qvd_next_piece returns a length and
  * refuses nothing. A refusal leaves all that was lent as it was, every byte of it,
- * whichever function refuses and with whatever number.
+ * whichever function refuses and with whatever number; only the tally of a table's
+ * functions, which is lent for that, then counts one more.
  *
  * QVD_LENGTH comes before all others: a ledger, a form or a room that is not as
- * long as this header says. A length that the rules themselves speak of is
+ * long as this header says, or bytes that are no table. A length that the rules themselves speak of is
  * refused by their number instead: a frame, a message, the room for either and
  * the issue list with QVD_BAD_LENGTH, both lengths of the two functions on D1 and
  * D2 subframes with QVD_D1_LENGTH, a B-CNAV1 subframe with QVD_CNAV1_LENGTH, room
@@ -65,6 +67,13 @@ enum {
     QVD_SHEET_HEADER_BYTES = 5 /* what its header says */
 };
 
+/* The ledgers of a table, its size in bytes, and that of a tally. */
+enum {
+    QVD_ROOMS = 4,
+    QVD_TABLE_BYTES = QVD_ROOMS * QVD_LEDGER_BYTES,
+    QVD_TALLY_BYTES = 160
+};
+
 /* What the functions answer. */
 enum {
     QVD_TAKEN = 0,
@@ -72,6 +81,7 @@ enum {
     QVD_LAST_BITS = 2,      /* a message's last two bits are not zero */
     QVD_SYNC = 3,           /* sync is not 0xEB90 */
     QVD_PRN = 4,            /* frame of another PRN than the ledger's; to open or make for a PRN that is not 1 to 5 or 59 to 63 */
+                            /* table: frame of a PRN that is not open */
     QVD_WITHDRAWN = 5,      /* first flag bit is 1 */
     QVD_PARITY = 6,         /* some parity group is not zero */
     QVD_CHECK = 7,          /* check bits wrong */
@@ -95,6 +105,9 @@ enum {
     QVD_SHEET_NUMBERS = 25, /* sheet to check: a row has other numbers than ours; with the row */
     QVD_SHEET_TWICE = 26,   /* sheet to check: a row stood there before; with the row */
     QVD_SHEET_HEADER = 27,  /* sheet to check: its PRN, IOD SSR or IODP is not the ledger's */
+    QVD_IS_OPEN = 28,       /* table, to open: the PRN is open */
+    QVD_FULL = 29,          /* table, to open: four other PRNs are open */
+    QVD_NOT_OPEN = 30,      /* table, to close or to ask: the PRN is not open */
     QVD_D1_LENGTH = 31,     /* subframe not 38 bytes, its information not 28, a subframe's last four bits not zero */
     QVD_D1_PREAMBLE = 32,   /* preamble is not 11100010010 */
     QVD_D1_FRAID = 33,      /* FraID is not 1 to 5 */
@@ -104,6 +117,7 @@ enum {
     QVD_CNAV1_HOUR = 37,    /* its HOW is above 167 */
     QVD_CHANGED = 38,       /* a frame that is checked has other message symbols than its message */
     QVD_LENGTH = 39         /* a ledger, contents, rows, verdicts, details, fields or header of another length than here */
+                            /* table: bytes that are no table; a tally, rows or a row of another length than here */
 };
 
 enum { QVD_NO_ISSUE = 65535 };
@@ -159,6 +173,18 @@ enum {
  * ledger for no PRN: they refuse every frame. A ledger may be copied and stored.
  *
  * An issue list has entry k - 1 for slot k: 0 to 1023, or QVD_NO_ISSUE.
+ *
+ * A table, QVD_TABLE_BYTES: QVD_ROOMS rooms one behind the other, each of a
+ * ledger's size. A room's first byte is the PRN that it is open for, 1 to 5 or 59
+ * to 63, and the room is then that PRN's ledger; 0 is a room that is free. Bytes
+ * are a table exactly if they have that length, each room's first byte is 0 or one
+ * of the ten, and no PRN has two rooms. Zero bytes are the empty table: nothing
+ * needs to be called to make one. A table may be copied and stored.
+ *
+ * A tally, QVD_TALLY_BYTES: how often each refusal was given. The counter of number
+ * n, 1 to 39, is the 4 bytes from 4 * n on, and stops at 4294967295. The first 4
+ * bytes are no counter and never change. Any bytes are a tally; zero bytes have
+ * counted nothing.
  *
  * A subframe of a D1 or D2 message, 38 bytes: its ten words of 30 bits as they
  * are sent, high bit first, then four zero bits. Its information, 28 bytes: the
@@ -315,6 +341,67 @@ uint32_t qvd_read_sheet(const uint8_t *sheet, size_t m, uint8_t *header, size_t 
  * list's, 25 + 256 * row, it has other numbers, 26 + 256 * row, it is repeated. */
 uint32_t qvd_check_sheet(const uint8_t *ledger, size_t n, const uint16_t *issues, size_t k,
                          const uint8_t *sheet, size_t m);
+
+/* Several correction satellites at once: one table, one tally, and each frame goes
+ * to the ledger of its own PRN. What a PRN's frames are answered and what its list
+ * is are those of a ledger that was opened when the PRN was and got its frames
+ * alone; other PRNs show in QVD_FULL and in the tally, and nowhere else.
+ *
+ *     static uint8_t table[QVD_TABLE_BYTES], tally[QVD_TALLY_BYTES];
+ *     qvd_table_open(table, sizeof table, tally, sizeof tally, 59);
+ *     qvd_table_open(table, sizeof table, tally, sizeof tally, 60);
+ *     while (next_frame(frame))
+ *         qvd_table_take(table, sizeof table, tally, sizeof tally, frame, sizeof frame);
+ *
+ * Each call is lent the table of n bytes, QVD_TABLE_BYTES, and the tally of t,
+ * QVD_TALLY_BYTES. Whatever number a call refuses with, it raises that number's
+ * counter by one and changes nothing else, neither the table nor what else it was
+ * lent; a call that is taken counts nothing. 39 comes before all else: first for a
+ * tally of another length, and then nothing is counted; then for bytes that are no
+ * table; then for the room of rows or of a row. The numbers after it stand below in
+ * the order in which they are given. No call changes another room than that of the
+ * PRN that it names or that its frame carries. */
+
+/* Opens the first free room for a PRN: all its bytes become those of a fresh
+ * ledger, whatever they were. 39, 4, 28, 29. */
+uint8_t qvd_table_open(uint8_t *table, size_t n, uint8_t *tally, size_t t, uint8_t prn);
+
+/* Closes the room of a PRN: all its bytes become 0. 39, 30. */
+uint8_t qvd_table_close(uint8_t *table, size_t n, uint8_t *tally, size_t t, uint8_t prn);
+
+/* Hands a frame of m bytes to the ledger of its PRN, which takes it, whole or not at
+ * all, as qvd_take does. 4: no room is open for its PRN; a frame that is refused 1
+ * or 3 has none. 39, then the lowest of 1, 3 to 12, 14, 15, 19. */
+uint8_t qvd_table_take(uint8_t *table, size_t n, uint8_t *tally, size_t t,
+                       const uint8_t *frame, size_t m);
+
+/* As qvd_table_take, and says more about 6 and 19, as qvd_take_detail does. The
+ * counter that is raised is that of the answer modulo 256. */
+uint32_t qvd_table_take_detail(uint8_t *table, size_t n, uint8_t *tally, size_t t,
+                               const uint8_t *frame, size_t m);
+
+/* Gives the rows of a PRN's list as qvd_rows does; r is QVD_ROWS_BYTES. 39, 1, 17,
+ * 30. */
+uint8_t qvd_table_rows(const uint8_t *table, size_t n, uint8_t *tally, size_t t, uint8_t prn,
+                       const uint16_t *issues, size_t k, uint8_t *rows, size_t r);
+
+/* Gives the row of a slot in a PRN's list as qvd_row does; r is QVD_ROW_BYTES. 39, 1,
+ * 11, 17, 30, 18. */
+uint8_t qvd_table_row(const uint8_t *table, size_t n, uint8_t *tally, size_t t, uint8_t prn,
+                      const uint16_t *issues, size_t k, uint16_t slot, uint8_t *row, size_t r);
+
+/* Writes a PRN's list as a correction sheet as qvd_write_sheet does, and returns 256
+ * times its length. 39, 1, 17, 30, 20, 22. */
+uint32_t qvd_table_write_sheet(const uint8_t *table, size_t n, uint8_t *tally, size_t t, uint8_t prn,
+                               const uint16_t *issues, size_t k, uint8_t *room, size_t m);
+
+/* Checks a correction sheet of m bytes against a PRN's list as qvd_check_sheet does,
+ * and returns 256 times the number of rows that it leaves out, or the refusal and
+ * what goes with it above. The counter that is raised is that of the answer modulo
+ * 256. 39, 1, 17, 30, 20, 23, 27, then of the first row that is wrong the lowest of
+ * 24 to 26. */
+uint32_t qvd_table_check_sheet(const uint8_t *table, size_t n, uint8_t *tally, size_t t, uint8_t prn,
+                               const uint16_t *issues, size_t k, const uint8_t *sheet, size_t m);
 
 #ifdef __cplusplus
 }

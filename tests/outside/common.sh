@@ -37,11 +37,11 @@ link="-static"
 
 # build_standin FOLDER OUT [SOURCES]: the stand-in as one object that shows
 # nothing but the boundary, so that it can be linked beside the independent
-# implementation. SOURCES is where ref.c, words.c, cnav1.c, sheet.c, forms.c and standin.c are taken from.
+# implementation. SOURCES is where ref.c, words.c, cnav1.c, sheet.c, forms.c, table.c and standin.c are taken from.
 build_standin() {
     local folder=$1 out=$2 sources=${3:-$outside} name
     local objects=() keep=()
-    for name in ref words cnav1 sheet forms standin; do
+    for name in ref words cnav1 sheet forms table standin; do
         $cc "${flags[@]}" -c -o "$folder/standin-$name.o" "$sources/$name.c" || return
         objects+=("$folder/standin-$name.o")
     done

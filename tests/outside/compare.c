@@ -87,14 +87,16 @@ uint8_t *issues_end;
 
 /* ---- what is being compared, and the first difference in full ---- */
 
-static const char *const call_name[CALLS + 1] = {
+static const char *const call_name[ALL_CALLS] = {
     "open", "take", "take_detail", "replay", "replay_detail", "read", "read_frame", "read_frame_detail", "write", "rows",
     "row", "d1_read", "d1_write", "read_cnav1", "join_issue", "make_frame", "check_frame", "write_sheet", "read_sheet",
-    "check_sheet", "next_piece"
+    "check_sheet", "next_piece", "table_open", "table_close", "table_take", "table_take_detail", "table_rows", "table_row",
+    "table_write_sheet", "table_check_sheet"
 };
 
 unsigned long tally[CALLS][MOST_VERDICT];
-static unsigned long comparisons, differences;
+static unsigned long comparisons;
+unsigned long differences;
 static unsigned long lists_with_rows, rows_seen, masks_changed, frames_noise;
 static unsigned long rows_of_any_bytes, subframes_corrected, frames_read_back;
 static unsigned long fields_at_end[CNAV1_FIELDS][3]; /* of subframes that were taken: smallest, largest, all ones */
@@ -113,6 +115,7 @@ void begin(const char *part)
     now.log = NULL;
     now.message = NULL;
     now.ledger = NULL;
+    now.more = NULL;
     random_state = seed * UINT64_C(0xD1342543DE82EF95);
     while (*part != 0)
         random_state = (random_state ^ (uint8_t)*part++) * UINT64_C(0x100000001B3);
@@ -154,6 +157,8 @@ static void print_case(const char *what)
         print_bytes("frame handed in before", now.log + at + 2, n);
         at += 2 + n;
     }
+    if (now.more != NULL)
+        now.more();
 }
 
 void same_number(const char *what, unsigned library, unsigned reference)
@@ -2112,6 +2117,31 @@ static void compare_made(unsigned long count)
     }
 }
 
+/* ---- what the part about tables of ledgers draws from here ---- */
+
+static struct leaning leaning_of[LEANINGS];
+
+void lean_anew(unsigned which) { some_leaning(&leaning_of[which]); }
+void lean_on(unsigned which, const struct mask *mask) { lean_on_mask(&leaning_of[which], mask); }
+
+size_t some_frame_for(unsigned which, unsigned prn, unsigned kind, unsigned faulty, unsigned damaged,
+                      uint8_t bytes[MOST_FRAME])
+{
+    make_message(&leaning_of[which], kind, faulty);
+    any_bytes(bytes, MOST_FRAME);
+    ref_encode(draft.bytes, prn, chance(80) ? 0 : below(32), bytes);
+    return chance(damaged) ? damage(bytes, MOST_FRAME) : FRAME_BYTES;
+}
+
+size_t some_issues_for(unsigned which, uint16_t issues[MOST_ISSUES]) { return some_issues(&leaning_of[which], issues); }
+
+unsigned some_slot_for(unsigned which)
+{
+    static const uint16_t odd[] = { 0, 0, 1, 174, 175, 255, 256, 256, 257, 65535 };
+    const struct leaning *l = &leaning_of[which];
+    return chance(20) ? PICK(odd) : l->places > 0 && chance(85) ? l->slot_at[between(1, l->places)] : between(1, 255);
+}
+
 /* ---- the run ---- */
 
 /* The refusals that each call can give; each must have come WANTED times. (A
@@ -2211,6 +2241,7 @@ static void print_table(void)
         printf(" %lu %s%s", ref_met[i], met_name[i], i + 1 < MEETINGS ? "," : "\n");
     printf("%lu pieces, %lu pairs of good frames that overlap\n", pieces_compared, overlaps_seen);
     print_sheets();
+    print_tables();
     printf("beside 6 and 19: %u first groups, %u numbers of failing groups, %u numbers of places\n",
            count_seen(first_seen, GROUPS), count_seen(failing_seen, GROUPS), count_seen(places_seen, SLOTS));
 }
@@ -2218,7 +2249,7 @@ static void print_table(void)
 /* Whether something that the run is to show came too seldom. */
 static bool too_few(void)
 {
-    bool few = too_few_sheets();
+    bool few = too_few_sheets() | too_few_tables();
     for (int c = 0; c < CALLS; c++)
         for (int i = 0; i < 16 && gives[c][i] != 0; i++)
             if (tally[c][gives[c][i]] < WANTED) {
@@ -2290,6 +2321,7 @@ int main(int argc, char **argv)
     compare_made(100 * percent);
     compare_pieces(40 * percent);
     compare_sheets(percent);
+    compare_tables(percent);
     begin("log");
     while (calls_of(TAKE) < 1200 * percent)
         compare_log(logs++, 1 + below(chance(20) ? 10 : 300));

@@ -1,7 +1,7 @@
 /* What the parts of the comparison share: random numbers, room with an end that
  * cannot be passed, the case at hand, the comparison itself, and the ledger of the
  * library beside that of the independent implementation. compare.c has it all;
- * compare_sheet.c compares correction sheets. */
+ * compare_sheet.c compares correction sheets, compare_table.c tables of ledgers. */
 #ifndef COMPARE_H
 #define COMPARE_H
 
@@ -27,7 +27,9 @@ uint8_t *room_end(size_t size);
 enum call {
     OPEN, TAKE, TAKE_DETAIL, REPLAY, REPLAY_DETAIL, READ, READ_FRAME, READ_FRAME_DETAIL, WRITE, ROWS, ROW, D1_READ,
     D1_WRITE, READ_CNAV1, JOIN_ISSUE, MAKE_FRAME, CHECK_FRAME, WRITE_SHEET, READ_SHEET, CHECK_SHEET, CALLS,
-    NEXT_PIECE = CALLS /* this last one refuses nothing */
+    NEXT_PIECE = CALLS, /* this one refuses nothing */
+    TABLE_OPEN, TABLE_CLOSE, TABLE_TAKE, TABLE_TAKE_DETAIL, TABLE_ROWS, TABLE_ROW, TABLE_WRITE_SHEET, TABLE_CHECK_SHEET,
+    ALL_CALLS /* those on tables are counted in compare_table.c */
 };
 
 enum { MARGIN = 32, MOST_LEDGER = QVD_LEDGER_BYTES + 64, MOST_VERDICT = 40, WANTED = 500 };
@@ -51,12 +53,14 @@ struct now {
     size_t message_bytes;
     const uint8_t *log;    /* frames handed in so far, each with its length before it in two bytes */
     size_t log_bytes;
+    void (*more)(void);    /* prints what else there is to say, if it is not NULL */
 };
 extern struct now now;
 
 /* Begins a part of the run, with random numbers of its own. */
 void begin(const char *part);
 
+extern unsigned long differences;
 void same_number(const char *what, unsigned library, unsigned reference);
 void same_bytes(const char *what, const uint8_t *library, const uint8_t *reference, size_t n);
 
@@ -87,5 +91,30 @@ extern const uint8_t ten[10];
 void compare_sheets(unsigned long percent);
 void print_sheets(void);
 bool too_few_sheets(void);
+
+/* And tables of ledgers, likewise. */
+void compare_tables(unsigned long percent);
+void print_tables(void);
+bool too_few_tables(void);
+
+/* What the messages of one PRN's frames are inclined to say, for so many PRNs at
+ * once: anew, and with a mask that has come into force. A frame for such a PRN, of a
+ * kind or, with 0, of any, a percentage of them faulty and damaged; its length is
+ * answered. Issues that mostly meet its orbits, and how many there are; a slot to ask
+ * for. */
+enum { LEANINGS = 10, MOST_FRAME = 256, MOST_ISSUES = SLOTS + 8 };
+void lean_anew(unsigned which);
+void lean_on(unsigned which, const struct mask *mask);
+size_t some_frame_for(unsigned which, unsigned prn, unsigned kind, unsigned faulty, unsigned damaged,
+                      uint8_t bytes[MOST_FRAME]);
+size_t some_issues_for(unsigned which, uint16_t issues[MOST_ISSUES]);
+unsigned some_slot_for(unsigned which);
+
+/* A sheet that a partner may send who has the list of a ledger and issues, changed
+ * and damaged as it may be; any, where there is no list or the ledger is NULL. Its
+ * length is answered. And room for the sheet of such a list, or near it. */
+enum { MOST_PARTNERS_SHEET = QVD_SHEET_BYTES + 112 };
+size_t some_partners_sheet(const struct ledger *of, const uint16_t *issues, size_t k, uint8_t bytes[MOST_PARTNERS_SHEET]);
+size_t some_sheet_room(const struct ledger *of, const uint16_t *issues, size_t k);
 
 #endif

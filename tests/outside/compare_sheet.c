@@ -796,6 +796,33 @@ static void compare_ledgers(unsigned long count)
     }
 }
 
+/* ---- what the part about tables of ledgers draws from here ---- */
+
+_Static_assert((int)MOST_SHEET <= (int)MOST_PARTNERS_SHEET, "a partner's sheet has room, damaged too");
+
+size_t some_partners_sheet(const struct ledger *of, const uint16_t *issues, size_t k, uint8_t bytes[MOST_PARTNERS_SHEET])
+{
+    static struct sheet ours, theirs;
+    unsigned changes = chance(30) ? 0 : 1 + below(3);
+    size_t n;
+
+    if (of == NULL || ref_list_sheet(of, issues, k, &ours) != 0)
+        some_sheet(&ours, below(4));
+    partners_sheet(&theirs, &ours);
+    while (changes-- > 0)
+        change_sheet(&theirs);
+    any_bytes(bytes, MOST_PARTNERS_SHEET);
+    n = ref_sheet_bytes(&theirs, bytes);
+    return chance(12) ? damage(bytes, n, theirs.count) : n;
+}
+
+size_t some_sheet_room(const struct ledger *of, const uint16_t *issues, size_t k)
+{
+    static struct sheet ours;
+    bool listed = of != NULL && ref_list_sheet(of, issues, k, &ours) == 0;
+    return some_room(ref_sheet_row_at(listed ? ours.count : 0) + SHEET_END_BYTES);
+}
+
 /* ---- the run ---- */
 
 void compare_sheets(unsigned long percent)

@@ -1,9 +1,11 @@
 /* night_ref [-e] [-m] [--csv] [--quiet] [--min-rows N] [--max-refused PERCENT]
- *           [--max-age SECONDS] [--max-gap SECONDS] PRN ISSUES LOG..
+ *           [--max-age SECONDS] [--max-gap SECONDS] PRN[,PRN..] ISSUES LOG..
  *
  * What the program night is to print, by the independent implementation: one
  * fresh ledger for PRN, the pieces of the logs, which are one stream, and the
- * list against the broadcast issues. With -m the logs are mixed ones, of text: a
+ * list against the broadcast issues. With several PRNs, up to four, all have their
+ * ledger in one table: first it is said what came of all pieces, then of each PRN
+ * what is said of one, counting the pieces that carry it. With -m the logs are mixed ones, of text: a
  * line is a frame, or a subframe of B-CNAV1 or D1 with the satellite that it was
  * heard from, and the issues of the B-CNAV1 subframes are joined into ISSUES, or
  * into no issues where ISSUES is the word none. A file name - is standard input.
@@ -12,6 +14,7 @@
 #include "cnav1.h"
 #include "lines.h"
 #include "ref.h"
+#include "table.h"
 #include "texts.h"
 #include "words.h"
 
@@ -54,7 +57,7 @@ static struct {
 static void usage(void)
 {
     fprintf(stderr, "usage: night_ref [-e] [-m] [--csv] [--quiet] [--min-rows N] [--max-refused PERCENT] [--max-age SECONDS] "
-                    "[--max-gap SECONDS] PRN ISSUES LOG..\n");
+                    "[--max-gap SECONDS] PRN[,PRN..] ISSUES LOG..\n");
     exit(2);
 }
 
@@ -99,36 +102,60 @@ static int take_options(char **argv)
 
 /* ---- the night ---- */
 
-static struct ledger ledger;
-static unsigned long pieces, taken, refused[REFUSALS];
+static struct table table;
+static struct tally tally; /* of all pieces */
+static unsigned prns[ROOMS], prn_count;
 
-/* Of the epochs that accepted frames carried. */
-static struct {
-    bool any;
-    uint32_t first, last, gap;
-    unsigned long piece; /* that carried the last of them */
-} epochs;
+/* What is counted of pieces: how many there were and what came of them, and of the
+ * epochs that accepted frames carried. Of all pieces, and of those that carry each
+ * PRN where there are several. */
+struct counted {
+    unsigned long pieces, taken, refused[REFUSALS];
+    struct {
+        bool any;
+        uint32_t first, last, gap;
+        unsigned long piece; /* that carried the last of them */
+    } epochs;
+};
+static struct counted all, carrying[ROOMS];
 
-static void count_epoch(const uint8_t *frame)
+static void count_epoch(struct counted *counted, const uint8_t *frame)
 {
     struct contents c;
     uint32_t epoch, after;
     if (ref_read_frame(frame, FRAME_BYTES, &c) != 0 || !ref_epoch(&c, &epoch))
         return;
-    if (!epochs.any)
-        epochs.first = epochs.last = epoch;
-    after = ref_after(epoch, epochs.last);
-    if (after < 43200 && after > epochs.gap)
-        epochs.gap = after;
-    epochs.any = true;
-    epochs.last = epoch;
-    epochs.piece = pieces;
+    if (!counted->epochs.any)
+        counted->epochs.first = counted->epochs.last = epoch;
+    after = ref_after(epoch, counted->epochs.last);
+    if (after < 43200 && after > counted->epochs.gap)
+        counted->epochs.gap = after;
+    counted->epochs.any = true;
+    counted->epochs.last = epoch;
+    counted->epochs.piece = counted->pieces;
+}
+
+static void count_piece(struct counted *counted, const uint8_t *piece, unsigned refusal)
+{
+    counted->pieces++;
+    if (refusal == 0) {
+        counted->taken++;
+        count_epoch(counted, piece);
+    } else {
+        counted->refused[refusal]++;
+    }
+}
+
+/* Whether a piece carries a PRN: it has a frame's length and sync. */
+static bool carries(const uint8_t *piece, size_t n, unsigned prn)
+{
+    return n == FRAME_BYTES && ref_get_bits(piece, 0, 16) == 0xEB90 && ref_frame_prn(piece) == prn;
 }
 
 /* The line of a piece, for -e. */
 static void print_piece(const uint8_t *piece, unsigned refusal, const struct detail *detail)
 {
-    printf("frame %lu", pieces);
+    printf("frame %lu", all.pieces);
     if (refusal == 0)
         printf(" taken type %u", ref_frame_type(piece));
     else
@@ -143,19 +170,17 @@ static void print_piece(const uint8_t *piece, unsigned refusal, const struct det
 static void take_piece(const uint8_t *piece, size_t n)
 {
     struct detail detail;
-    unsigned refusal = ref_take_detail(&ledger, piece, n, &detail);
+    unsigned refusal = ref_table_take(&table, piece, n, &detail);
 
-    pieces++;
-    if (refusal == 0) {
-        taken++;
-        count_epoch(piece);
-    } else {
-        refused[refusal]++;
-    }
+    ref_tally(&tally, refusal);
+    count_piece(&all, piece, refusal);
+    for (unsigned i = 0; i < prn_count; i++)
+        if (carries(piece, n, prns[i]))
+            count_piece(&carrying[i], piece, refusal);
     if (asked.each && !asked.csv)
         print_piece(piece, refusal, &detail);
-    if (!asked.quiet && pieces % 100000 == 0)
-        fprintf(stderr, "... %lu frames\n", pieces);
+    if (!asked.quiet && all.pieces % 100000 == 0)
+        fprintf(stderr, "... %lu frames\n", all.pieces);
 }
 
 /* ---- mixed logs ---- */
@@ -239,62 +264,77 @@ static void print_heard(const char *signal, const char *done, const struct heard
 
 /* ---- the report ---- */
 
-/* How many places of the mask in force are those of satellites: they come first. */
-static unsigned assigned(void)
+/* How many places of a mask in force are those of satellites: they come first. */
+static unsigned assigned(const struct ledger *ledger)
 {
     unsigned n = 0;
-    while (n < ledger.places && ledger.slot_at[n + 1] <= ASSIGNED_SLOTS)
+    while (n < ledger->places && ledger->slot_at[n + 1] <= ASSIGNED_SLOTS)
         n++;
     return n;
 }
 
-static void print_counts(void)
+static void print_refused(int refusal, unsigned long times)
 {
-    printf("frames %lu taken %lu refused %lu\n", pieces, taken, pieces - taken);
+    if (times > 0)
+        printf("refusal %d %lu %s\n", refusal, times, refusal_words[refusal]);
+}
+
+static void print_pieces(const struct counted *counted)
+{
+    printf("frames %lu taken %lu refused %lu\n", counted->pieces, counted->taken, counted->pieces - counted->taken);
     for (int i = 1; i < REFUSALS; i++)
-        if (refused[i] > 0)
-            printf("refusal %d %lu %s\n", i, refused[i], refusal_words[i]);
-    if (asked.mixed) {
-        print_heard("cnav1", "joined", &cnav1);
-        print_heard("d1", "read", &d1);
-        printf("lines %lu bad %lu\n", lines, bad_lines);
-    }
-    if (ledger.has_mask)
-        printf("mask ssr %u iodp %u satellites %u\n", ledger.mask.iod_ssr, ledger.mask.iodp, assigned());
+        print_refused(i, counted->refused[i]);
+}
+
+static void print_mixed(void)
+{
+    print_heard("cnav1", "joined", &cnav1);
+    print_heard("d1", "read", &d1);
+    printf("lines %lu bad %lu\n", lines, bad_lines);
+}
+
+static void print_counts(const struct ledger *ledger, const struct counted *counted)
+{
+    print_pieces(counted);
+    if (asked.mixed && prn_count == 1)
+        print_mixed();
+    if (ledger->has_mask)
+        printf("mask ssr %u iodp %u satellites %u\n", ledger->mask.iod_ssr, ledger->mask.iodp, assigned(ledger));
     else
         printf("mask none\n");
-    if (ledger.has_mask && assigned() < ledger.places)
-        printf("reserved %u\n", ledger.places - assigned());
-    if (epochs.any)
-        printf("epochs first %u last %u longest-gap %u frames-since %lu\n", (unsigned)epochs.first, (unsigned)epochs.last,
-               (unsigned)epochs.gap, pieces - epochs.piece);
+    if (ledger->has_mask && assigned(ledger) < ledger->places)
+        printf("reserved %u\n", ledger->places - assigned(ledger));
+    if (counted->epochs.any)
+        printf("epochs first %u last %u longest-gap %u frames-since %lu\n", (unsigned)counted->epochs.first,
+               (unsigned)counted->epochs.last, (unsigned)counted->epochs.gap, counted->pieces - counted->epochs.piece);
     else
         printf("epochs none\n");
 }
 
-static void print_rows(char separator, const struct row *rows, size_t count)
+static void print_rows_of(const struct ledger *ledger, char separator, const struct row *rows, size_t count)
 {
-    print_head(separator, " orbit_s clock_s");
     for (size_t i = 0; i < count; i++) {
+        if (asked.csv && prn_count > 1)
+            printf("%u%c", ledger->prn, separator);
         print_row(separator, &rows[i]);
-        printf("%c%u%c%u\n", separator, (unsigned)ledger.orbit[rows[i].slot].epoch, separator,
-               (unsigned)ledger.clock[rows[i].slot].epoch);
+        printf("%c%u%c%u\n", separator, (unsigned)ledger->orbit[rows[i].slot].epoch, separator,
+               (unsigned)ledger->clock[rows[i].slot].epoch);
     }
 }
 
 /* The satellites of the mask in force that have no row. */
-static void print_absent(const uint16_t issues[SLOTS], size_t rows)
+static void print_absent(const struct ledger *ledger, const uint16_t issues[SLOTS], size_t rows)
 {
     unsigned absent = 0;
-    for (unsigned n = 1; ledger.has_mask && n <= assigned(); n++)
-        absent += ref_reason(&ledger, issues, ledger.slot_at[n]) != HAS_ROW;
-    if (ledger.has_mask && absent + rows != assigned())
+    for (unsigned n = 1; ledger->has_mask && n <= assigned(ledger); n++)
+        absent += ref_reason(ledger, issues, ledger->slot_at[n]) != HAS_ROW;
+    if (ledger->has_mask && absent + rows != assigned(ledger))
         stop("the list", "rows and reasons do not fit each other");
     printf("absent %u\n", absent);
     if (absent > 0)
         printf("slot sat why\n");
-    for (unsigned n = 1; absent > 0 && n <= assigned(); n++) {
-        unsigned slot = ledger.slot_at[n], reason = ref_reason(&ledger, issues, slot);
+    for (unsigned n = 1; absent > 0 && n <= assigned(ledger); n++) {
+        unsigned slot = ledger->slot_at[n], reason = ref_reason(ledger, issues, slot);
         if (reason == HAS_ROW)
             continue;
         printf("%u ", slot);
@@ -303,26 +343,82 @@ static void print_absent(const uint16_t issues[SLOTS], size_t rows)
     }
 }
 
-/* A line for each limit that does not hold; whether all hold is answered. */
-static bool print_unfit(FILE *out, const struct row *rows, size_t count)
+/* The beginning of a line that says that a limit does not hold: with several PRNs and
+ * nothing but their table on standard output, it names the PRN. */
+static void print_unfit(FILE *out, unsigned prn)
 {
+    if (asked.csv && prn_count > 1)
+        fprintf(out, "prn %u ", prn);
+    fprintf(out, "unfit ");
+}
+
+/* A line for each limit that does not hold; whether all hold is answered. */
+static bool judge(const struct ledger *ledger, const struct counted *counted, const struct row *rows, size_t count)
+{
+    FILE *out = asked.csv ? stderr : stdout;
+    unsigned long refused = counted->pieces - counted->taken;
+    uint32_t age = 0, gap = counted->epochs.gap;
     bool fit = true;
-    uint32_t age = 0;
 
     for (size_t i = 0; i < count; i++) {
-        uint32_t after = ref_after(epochs.last, ledger.clock[rows[i].slot].epoch);
+        uint32_t after = ref_after(counted->epochs.last, ledger->clock[rows[i].slot].epoch);
         if (after > age)
             age = after;
     }
-    if (count < asked.min_rows)
-        fit = fprintf(out, "unfit rows %zu below %lu\n", count, asked.min_rows) < 0;
-    if (asked.limits_refused && (pieces - taken) * 100 > asked.max_refused * pieces)
-        fit = fprintf(out, "unfit refused %lu of %lu above %lu percent\n", pieces - taken, pieces, asked.max_refused) < 0;
-    if (asked.limits_age && age > asked.max_age)
-        fit = fprintf(out, "unfit age %u above %lu\n", (unsigned)age, asked.max_age) < 0;
-    if (asked.limits_gap && epochs.gap > asked.max_gap)
-        fit = fprintf(out, "unfit gap %u above %lu\n", (unsigned)epochs.gap, asked.max_gap) < 0;
+    if (count < asked.min_rows) {
+        print_unfit(out, ledger->prn);
+        fit = fprintf(out, "rows %zu below %lu\n", count, asked.min_rows) < 0;
+    }
+    if (asked.limits_refused && refused * 100 > asked.max_refused * counted->pieces) {
+        print_unfit(out, ledger->prn);
+        fit = fprintf(out, "refused %lu of %lu above %lu percent\n", refused, counted->pieces, asked.max_refused) < 0;
+    }
+    if (asked.limits_age && age > asked.max_age) {
+        print_unfit(out, ledger->prn);
+        fit = fprintf(out, "age %u above %lu\n", (unsigned)age, asked.max_age) < 0;
+    }
+    if (asked.limits_gap && gap > asked.max_gap) {
+        print_unfit(out, ledger->prn);
+        fit = fprintf(out, "gap %u above %lu\n", (unsigned)gap, asked.max_gap) < 0;
+    }
     return fit;
+}
+
+/* What is said of one PRN; whether all limits hold for it is answered. */
+static bool report(const struct ledger *ledger, const struct counted *counted, const uint16_t issues[SLOTS])
+{
+    static struct row rows[ASSIGNED_SLOTS];
+    size_t count;
+
+    ref_rows(ledger, issues, SLOTS, rows, &count);
+    if (asked.csv) {
+        print_rows_of(ledger, ',', rows, count);
+    } else {
+        printf("prn %u\n", ledger->prn);
+        print_counts(ledger, counted);
+        printf("rows %zu\n", count);
+        print_head(' ', " orbit_s clock_s");
+        print_rows_of(ledger, ' ', rows, count);
+        print_absent(ledger, issues, count);
+    }
+    return judge(ledger, counted, rows, count);
+}
+
+/* What stands before the reports: with commas the head of the one table, of which
+ * several PRNs have a column; with several PRNs what came of all pieces, the
+ * refusals as the tally has them. */
+static void print_before(void)
+{
+    if (asked.csv) {
+        printf("%s", prn_count > 1 ? "prn," : "");
+        print_head(',', " orbit_s clock_s");
+    } else if (prn_count > 1) {
+        printf("frames %lu taken %lu refused %lu\n", all.pieces, all.taken, all.pieces - all.taken);
+        for (int i = 1; i < REFUSALS; i++)
+            print_refused(i, tally.given[i]);
+        if (asked.mixed)
+            print_mixed();
+    }
 }
 
 /* The logs as one stream of frames. */
@@ -339,21 +435,33 @@ static void take_logs(char **names)
     free(log.at);
 }
 
+/* Opens a ledger for each PRN of a word, with commas between them: one to four of the
+ * ten, each once. */
+static void open_ledgers(const char *word)
+{
+    char number[16];
+    for (const char *at = word;; at++) {
+        size_t digits = strcspn(at, ",");
+        snprintf(number, sizeof number, "%.*s", (int)(digits < sizeof number ? digits : sizeof number - 1), at);
+        if (!is_number(number) || ref_table_open(&table, (unsigned)number_of(number)) != 0)
+            stop(word, "not one to four PRNs, each once, of 1 to 5 and 59 to 63");
+        prns[prn_count++] = (unsigned)number_of(number);
+        at += digits;
+        if (*at == 0)
+            return;
+    }
+}
+
 int main(int argc, char **argv)
 {
-    static struct row rows[ASSIGNED_SLOTS];
     static uint16_t issues[SLOTS];
-    size_t count;
-    unsigned prn;
-    bool fit;
+    bool fit = true;
     int arg = take_options(argv);
 
     program = "night_ref";
     if (argc - arg < 3)
         usage();
-    prn = is_number(argv[arg]) ? (unsigned)number_of(argv[arg]) : 0;
-    if (ref_open(&ledger, prn) != 0)
-        stop(argv[arg], "no such PRN");
+    open_ledgers(argv[arg]);
     if (strcmp(argv[arg + 1], "none") == 0)
         no_issues(issues);
     else
@@ -363,17 +471,9 @@ int main(int argc, char **argv)
     for (char **name = argv + arg + 2; asked.mixed && *name != NULL; name++)
         take_mixed(*name, issues);
 
-    ref_rows(&ledger, issues, SLOTS, rows, &count);
-    if (asked.csv) {
-        print_rows(',', rows, count);
-    } else {
-        printf("prn %u\n", prn);
-        print_counts();
-        printf("rows %zu\n", count);
-        print_rows(' ', rows, count);
-        print_absent(issues, count);
-    }
-    fit = print_unfit(asked.csv ? stderr : stdout, rows, count);
+    print_before();
+    for (unsigned i = 0; i < prn_count; i++)
+        fit &= report(ref_table_ledger(&table, prns[i]), prn_count == 1 ? &all : &carrying[i], issues);
     if (fflush(stdout) != 0)
         stop("standard output", "cannot be written");
     return fit ? 0 : 3;

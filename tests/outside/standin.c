@@ -7,6 +7,7 @@
 #include "quieuvodan.h"
 #include "ref.h"
 #include "sheet.h"
+#include "table.h"
 #include "words.h"
 
 #include <string.h>
@@ -285,4 +286,125 @@ uint32_t qvd_check_sheet(const uint8_t *ledger, size_t n, const uint16_t *issues
     load(&l, ledger);
     refusal = ref_check_sheet(&l, issues, k, sheet, m, &beside);
     return beside_to_number(refusal, beside);
+}
+
+/* ---- the table of four ledgers, and the tally ---- */
+
+_Static_assert((int)ROOMS == (int)QVD_ROOMS && (int)TABLE_FORM_BYTES == (int)QVD_TABLE_BYTES, "one form of tables");
+_Static_assert((int)TALLY_FORM_BYTES == (int)QVD_TALLY_BYTES, "one form of tallies");
+
+/* The table of the call at hand. Its bytes, unlike a ledger's here, have the form of
+ * the library's: each call takes them apart, and puts back the one room that it
+ * changes. */
+static struct table held;
+
+static void store_room(uint8_t *table, unsigned room) { room_to_bytes(&held, room, table + room * LEDGER_FORM_BYTES); }
+
+/* Counts a refusal in a tally's bytes; it is answered. */
+static unsigned counted(uint8_t *bytes, unsigned refusal)
+{
+    struct tally tally;
+    tally_from_bytes(&tally, bytes);
+    ref_tally(&tally, refusal);
+    tally_to_bytes(&tally, bytes);
+    return refusal;
+}
+
+uint8_t qvd_table_open(uint8_t *table, size_t n, uint8_t *tally, size_t t, uint8_t prn)
+{
+    unsigned refusal = 39;
+    if (t != QVD_TALLY_BYTES)
+        return 39;
+    if (table_from_bytes(&held, table, n))
+        refusal = ref_table_open(&held, prn);
+    if (refusal == 0)
+        store_room(table, ref_table_room(&held, prn));
+    return (uint8_t)counted(tally, refusal);
+}
+
+uint8_t qvd_table_close(uint8_t *table, size_t n, uint8_t *tally, size_t t, uint8_t prn)
+{
+    unsigned refusal = 39, room = NO_ROOM;
+    if (t != QVD_TALLY_BYTES)
+        return 39;
+    if (table_from_bytes(&held, table, n)) {
+        room = ref_table_room(&held, prn);
+        refusal = ref_table_close(&held, prn);
+    }
+    if (refusal == 0)
+        store_room(table, room);
+    return (uint8_t)counted(tally, refusal);
+}
+
+uint32_t qvd_table_take_detail(uint8_t *table, size_t n, uint8_t *tally, size_t t, const uint8_t *frame, size_t m)
+{
+    struct detail detail = { 0 };
+    unsigned refusal = 39;
+    if (t != QVD_TALLY_BYTES)
+        return 39;
+    if (table_from_bytes(&held, table, n))
+        refusal = ref_table_take(&held, frame, m, &detail);
+    if (refusal == 0)
+        store_room(table, ref_table_room(&held, ref_frame_prn(frame)));
+    return detail_to_number(counted(tally, refusal), &detail);
+}
+
+uint8_t qvd_table_take(uint8_t *table, size_t n, uint8_t *tally, size_t t, const uint8_t *frame, size_t m)
+{
+    return (uint8_t)qvd_table_take_detail(table, n, tally, t, frame, m);
+}
+
+uint8_t qvd_table_rows(const uint8_t *table, size_t n, uint8_t *tally, size_t t, uint8_t prn, const uint16_t *issues,
+                       size_t k, uint8_t *rows, size_t r)
+{
+    struct row row[ASSIGNED_SLOTS];
+    size_t count = 0;
+    unsigned refusal = 39;
+    if (t != QVD_TALLY_BYTES)
+        return 39;
+    if (table_from_bytes(&held, table, n) && r == QVD_ROWS_BYTES)
+        refusal = ref_table_rows(&held, prn, issues, k, row, &count);
+    if (refusal == 0)
+        memset(rows, 0, r);
+    for (size_t i = 0; i < count; i++)
+        row_to_bytes(&row[i], rows + i * QVD_ROW_BYTES);
+    return (uint8_t)counted(tally, refusal);
+}
+
+uint8_t qvd_table_row(const uint8_t *table, size_t n, uint8_t *tally, size_t t, uint8_t prn, const uint16_t *issues,
+                      size_t k, uint16_t slot, uint8_t *row, size_t r)
+{
+    struct row found;
+    unsigned refusal = 39;
+    if (t != QVD_TALLY_BYTES)
+        return 39;
+    if (table_from_bytes(&held, table, n) && r == QVD_ROW_BYTES)
+        refusal = ref_table_row(&held, prn, issues, k, slot, &found);
+    if (refusal == 0)
+        row_to_bytes(&found, row);
+    return (uint8_t)counted(tally, refusal);
+}
+
+uint32_t qvd_table_write_sheet(const uint8_t *table, size_t n, uint8_t *tally, size_t t, uint8_t prn,
+                               const uint16_t *issues, size_t k, uint8_t *room, size_t m)
+{
+    size_t written = 0;
+    unsigned refusal = 39;
+    if (t != QVD_TALLY_BYTES)
+        return 39;
+    if (table_from_bytes(&held, table, n))
+        refusal = ref_table_write_sheet(&held, prn, issues, k, room, m, &written);
+    return beside_to_number(counted(tally, refusal), written);
+}
+
+uint32_t qvd_table_check_sheet(const uint8_t *table, size_t n, uint8_t *tally, size_t t, uint8_t prn,
+                               const uint16_t *issues, size_t k, const uint8_t *sheet, size_t m)
+{
+    size_t beside = 0;
+    unsigned refusal = 39;
+    if (t != QVD_TALLY_BYTES)
+        return 39;
+    if (table_from_bytes(&held, table, n))
+        refusal = ref_table_check_sheet(&held, prn, issues, k, sheet, m, &beside);
+    return beside_to_number(counted(tally, refusal), beside);
 }

@@ -7,3 +7,5 @@ pub mod MakeLaws
 pub mod SheetLaws
 pub mod CheckSheetLaws
 pub mod AllRows
+pub mod TableLaws
+pub mod TableKept

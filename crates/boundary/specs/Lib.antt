@@ -5,3 +5,4 @@ pub mod D1
 pub mod Cnav1
 pub mod Make
 pub mod Sheet
+pub mod Table

@@ -1,37 +1,33 @@
 // What becomes of each frame of the logs: it is counted, and has its line where that is asked for.
 ghost use Rattle.io.specs.Counts.{Counts};
+use crate::accounts::Accounts;
+use crate::accounts::REFUSED;
+use crate::accounts::owner_of;
+use crate::accounts::refuse;
 use console::put::put_byte;
 use console::put::put_bytes;
 use console::put::put_detail;
 use console::put::put_field;
 use console::put::put_number;
 use libc::STDERR_FILENO;
-use log::epochs::Epochs;
+use table_form::TABLE_SIZE;
+use tally::TALLY_SIZE;
 use verdict::Verdict;
 use verdict::number_of;
 
-// What is said while the logs are read: a line on standard output for each frame; no progress lines.
+// How the logs are read: for several PRNs, or for one; as text. And what is said meanwhile: a line on standard output for each frame; no progress
+// lines.
 pub struct How {
+    pub several: bool,
+    pub mixed: bool,
     pub each: bool,
     pub quiet: bool,
 }
 
-// What became of the logs: the epochs of the frames taken, and whether all could be read and written.
+// What became of frames: the accounts, and whether all could be read and written.
 pub struct Outcome {
-    pub epochs: Epochs,
+    pub accounts: Accounts,
     pub good: bool,
-}
-
-// The counts: entry 0 for frames taken, entry n for those refused n, entry 20 for all.
-const ALL: usize = 20;
-
-// One more is counted, but for the largest number.
-fn raise(counts: &mut [u64; 21], i: usize) {
-    if i < 21 {
-        if counts[i] < u64::MAX {
-            counts[i] += 1;
-        }
-    }
 }
 
 // What became of a frame.
@@ -69,20 +65,31 @@ fn progress(number: u64, quiet: bool) {
     io::write_all(STDERR_FILENO, &room[..n]);
 }
 
-// A frame that went through the ledger is counted and, if that is asked for, gets its line; false where that cannot be written.
-pub(crate) fn count_frame(
-    program: &[u8],
-    frame: &[u8],
-    v: Verdict,
-    how: How,
-    counts: &mut [u64; 21],
-) -> bool {
-    raise(counts, number_of(v) as usize);
-    raise(counts, ALL);
-    let number = counts[20];
+// The line of a frame, if that is asked for; false where it cannot be written.
+fn say_frame(program: &[u8], frame: &[u8], v: Verdict, how: How, number: u64) -> bool {
     progress(number, how.quiet);
     if !how.each {
         return true;
     }
     write_frame(program, number, v, contents::read::kind_of(frame, 28))
+}
+
+// A frame that the table answered is counted, its refusal in the tally and for its PRN, and has its line.
+pub(crate) fn count_frame(
+    program: &[u8],
+    frame: &[u8],
+    v: Verdict,
+    a: Accounts,
+    how: How,
+    table: &[u8; TABLE_SIZE],
+    tally: &mut [u8; TALLY_SIZE],
+    refused: &mut [u64; REFUSED],
+) -> Outcome {
+    let n = number_of(v);
+    let i = owner_of(table, a.count, frame, n);
+    tally::count(tally, n);
+    refuse(refused, i, n);
+    let accounts = crate::accounts::after(a, i, frame, n);
+    let good = say_frame(program, frame, v, how, accounts.all);
+    Outcome { accounts, good }
 }

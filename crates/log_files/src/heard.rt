@@ -1,11 +1,11 @@
-// What became of the records of mixed logs.
-use log::epochs::Epochs;
+// What became of the logs: of their frames, and of the other records of mixed logs.
+use crate::accounts::Accounts;
 
-// The epochs of the frames taken, the broadcast list, how often subframes 2 of B-CNAV1 and D1 subframes were taken (entry 0) and refused with each
+// The accounts of the frames, the broadcast list, how often subframes 2 of B-CNAV1 and D1 subframes were taken (entry 0) and refused with each
 // number (entry n), and how many there were (entry 40); the lines that say something, and how many of them were bad. The state is 0 within a log, 1
 // at its end, and 2 where something could not be read or written, and it has been said what.
 pub struct Heard {
-    pub epochs: Epochs,
+    pub accounts: Accounts,
     pub issues: [u16; 255],
     pub cnav1: [u64; 41],
     pub d1: [u64; 41],
@@ -15,10 +15,10 @@ pub struct Heard {
 }
 
 // Before the first log, over a broadcast list.
-pub fn begin(issues: [u16; 255]) -> Heard {
+pub fn begin(issues: [u16; 255], accounts: Accounts) -> Heard {
     let none = [0u64; 41];
     Heard {
-        epochs: log::epochs::no_epochs(),
+        accounts,
         issues,
         cnav1: none,
         d1: none,
@@ -29,9 +29,8 @@ pub fn begin(issues: [u16; 255]) -> Heard {
 }
 
 // After logs of frames alone.
-pub fn of_frames(issues: [u16; 255], epochs: Epochs, good: bool) -> Heard {
-    let mut r = begin(issues);
-    r.epochs = epochs;
+pub fn of_frames(issues: [u16; 255], accounts: Accounts, good: bool) -> Heard {
+    let mut r = begin(issues, accounts);
     r.state = if good { 1 } else { 2 };
     r
 }
@@ -56,9 +55,9 @@ fn counted(counts: [u64; 41], refusal: u8) -> [u64; 41] {
 }
 
 // After a frame.
-pub(crate) fn with_frame(h: Heard, epochs: Epochs, good: bool) -> Heard {
+pub(crate) fn with_frame(h: Heard, accounts: Accounts, good: bool) -> Heard {
     let mut r = h;
-    r.epochs = epochs;
+    r.accounts = accounts;
     r.state = if good { 0 } else { 2 };
     r
 }

@@ -1,5 +1,6 @@
-// Mixed logs: text, a record to a line. Frames go through the ledger, subframes 2 of B-CNAV1 into the broadcast list, and D1 subframes are read.
+// Mixed logs: text, a record to a line. Frames go through the table, subframes 2 of B-CNAV1 into the broadcast list, and D1 subframes are read.
 ghost use Rattle.console.specs.Lines.{Inside};
+use crate::accounts::REFUSED;
 use crate::frames::How;
 use crate::frames::count_frame;
 use crate::heard::Heard;
@@ -24,22 +25,25 @@ use inputs::records::FRAME;
 use inputs::records::NOTHING;
 use inputs::records::record_of;
 use libc::STDERR_FILENO;
+use table_form::TABLE_SIZE;
+use tally::TALLY_SIZE;
 use verdict::number_of;
 
-// A frame goes through the ledger.
+// A frame goes to the ledger of its PRN.
 fn take_frame(
     program: &[u8],
     frame: &[u8],
     h: Heard,
     how: How,
-    ledger: &mut [u8; 9216],
-    counts: &mut [u64; 21],
+    table: &mut [u8; TABLE_SIZE],
+    tally: &mut [u8; TALLY_SIZE],
+    refused: &mut [u64; REFUSED],
 ) -> Heard {
-    let v = ledger::take::take_in(ledger, frame);
-    let e = h.epochs;
-    let epochs = log::epochs::after(e, frame, number_of(v) == 0);
-    let good = count_frame(program, frame, v, how, counts);
-    with_frame(h, epochs, good)
+    let v = table::take(table, frame);
+    let a = h.accounts;
+    let o = count_frame(program, frame, v, a, how, table, tally, refused);
+    let accounts = o.accounts;
+    with_frame(h, accounts, o.good)
 }
 
 // A subframe 2 heard from a BeiDou satellite is joined into the broadcast list, or refused.
@@ -64,11 +68,12 @@ fn take_bytes(
     s: &[u8],
     h: Heard,
     how: How,
-    ledger: &mut [u8; 9216],
-    counts: &mut [u64; 21],
+    table: &mut [u8; TABLE_SIZE],
+    tally: &mut [u8; TALLY_SIZE],
+    refused: &mut [u64; REFUSED],
 ) -> Heard {
     if kind == FRAME {
-        return take_frame(program, s, h, how, ledger, counts);
+        return take_frame(program, s, h, how, table, tally, refused);
     }
     if kind == CNAV1 {
         return hear(prn, s, h);
@@ -84,12 +89,23 @@ fn take_digits(
     digits: &[u8],
     h: Heard,
     how: How,
-    ledger: &mut [u8; 9216],
-    counts: &mut [u64; 21],
+    table: &mut [u8; TABLE_SIZE],
+    tally: &mut [u8; TALLY_SIZE],
+    refused: &mut [u64; REFUSED],
 ) -> Heard {
     let mut bytes = [0u8; 32768];
     let n = bytes_into(digits, &mut bytes);
-    take_bytes(program, kind, prn, &bytes[..n], h, how, ledger, counts)
+    take_bytes(
+        program,
+        kind,
+        prn,
+        &bytes[..n],
+        h,
+        how,
+        table,
+        tally,
+        refused,
+    )
 }
 
 // A line on standard error for the first bad line of all.
@@ -120,8 +136,9 @@ fn take_line(
     s: &[u8],
     h: Heard,
     how: How,
-    ledger: &mut [u8; 9216],
-    counts: &mut [u64; 21],
+    table: &mut [u8; TABLE_SIZE],
+    tally: &mut [u8; TALLY_SIZE],
+    refused: &mut [u64; REFUSED],
 ) -> Heard {
     let r = record_of(s, number);
     let from = r.from;
@@ -133,7 +150,17 @@ fn take_line(
     if r.kind > D1 {
         return take_bad(name, number, g, how);
     }
-    take_digits(program, r.kind, r.prn, &s[from..to], g, how, ledger, counts)
+    take_digits(
+        program,
+        r.kind,
+        r.prn,
+        &s[from..to],
+        g,
+        how,
+        table,
+        tally,
+        refused,
+    )
 }
 
 // A log cannot be read on.
@@ -150,8 +177,9 @@ fn turn(
     l: Lines,
     h: Heard,
     how: How,
-    ledger: &mut [u8; 9216],
-    counts: &mut [u64; 21],
+    table: &mut [u8; TABLE_SIZE],
+    tally: &mut [u8; TALLY_SIZE],
+    refused: &mut [u64; REFUSED],
 ) -> Heard
     requires { ⌜ Inside l (now room) ⌝ }
 {
@@ -162,7 +190,17 @@ fn turn(
         Step::End => with_state(h, 1),
         Step::Failed => fail(program, name, h),
         Step::Long => take_bad(name, l.number, with_line(h), how),
-        Step::Line => take_line(program, name, l.number, &room[a..b], h, how, ledger, counts),
+        Step::Line => take_line(
+            program,
+            name,
+            l.number,
+            &room[a..b],
+            h,
+            how,
+            table,
+            tally,
+            refused,
+        ),
     }
 }
 
@@ -182,8 +220,9 @@ fn all_lines(
     room: &mut [u8],
     first: Heard,
     how: How,
-    ledger: &mut [u8; 9216],
-    counts: &mut [u64; 21],
+    table: &mut [u8; TABLE_SIZE],
+    tally: &mut [u8; TALLY_SIZE],
+    refused: &mut [u64; REFUSED],
 ) -> Heard {
     let mut l = console::lines::begin();
     let mut h = first;
@@ -192,7 +231,7 @@ fn all_lines(
     while left > 0 && state == 0 {
         let next = line_after(fd, room, l);
         l = next;
-        let after = turn(program, name, room, next, h, how, ledger, counts);
+        let after = turn(program, name, room, next, h, how, table, tally, refused);
         h = after;
         state = after.state;
         left -= 1;
@@ -206,15 +245,16 @@ fn take_named(
     name: &[u8],
     h: Heard,
     how: How,
-    ledger: &mut [u8; 9216],
-    counts: &mut [u64; 21],
+    table: &mut [u8; TABLE_SIZE],
+    tally: &mut [u8; TALLY_SIZE],
+    refused: &mut [u64; REFUSED],
 ) -> Heard {
     let fd = open_named(program, name);
     if fd < 0 {
         return with_state(h, 2);
     }
     let mut room = console::lines::line_room();
-    let r = all_lines(program, fd, name, &mut room, h, how, ledger, counts);
+    let r = all_lines(program, fd, name, &mut room, h, how, table, tally, refused);
     close_named(fd);
     r
 }
@@ -225,12 +265,21 @@ fn take_log(
     i: usize,
     h: Heard,
     how: How,
-    ledger: &mut [u8; 9216],
-    counts: &mut [u64; 21],
+    table: &mut [u8; TABLE_SIZE],
+    tally: &mut [u8; TALLY_SIZE],
+    refused: &mut [u64; REFUSED],
 ) -> Heard {
     let mut path = io::buffer();
     let n = os::arg(i, &mut path);
-    take_named(program, &path[..n], with_state(h, 0), how, ledger, counts)
+    take_named(
+        program,
+        &path[..n],
+        with_state(h, 0),
+        how,
+        table,
+        tally,
+        refused,
+    )
 }
 
 // The logs from argument i on, of count, in order, over a broadcast list. The end of a log ends its last line.
@@ -238,16 +287,17 @@ pub fn take_logs(
     program: &[u8],
     i: usize,
     count: usize,
-    issues: [u16; 255],
+    first: Heard,
     how: How,
-    ledger: &mut [u8; 9216],
-    counts: &mut [u64; 21],
+    table: &mut [u8; TABLE_SIZE],
+    tally: &mut [u8; TALLY_SIZE],
+    refused: &mut [u64; REFUSED],
 ) -> Heard {
-    let mut h = crate::heard::begin(issues);
+    let mut h = first;
     let mut state: u8 = 1;
     let mut k = i;
     while k < count && state == 1 {
-        let after = take_log(program, k, h, how, ledger, counts);
+        let after = take_log(program, k, h, how, table, tally, refused);
         h = after;
         state = after.state;
         k += 1;

@@ -1,4 +1,6 @@
-// Logs of bytes: their pieces go through the ledger.
+// Logs of bytes: their pieces go through the table.
+use crate::accounts::Accounts;
+use crate::accounts::REFUSED;
 use crate::frames::How;
 use crate::frames::Outcome;
 use crate::frames::count_frame;
@@ -6,42 +8,37 @@ use crate::stream::Stream;
 use crate::stream::filled;
 use console::put::cursor_in;
 use inputs::ends::least;
-use log::epochs::Epochs;
-use verdict::number_of;
+use table_form::TABLE_SIZE;
+use tally::TALLY_SIZE;
 
-// After a piece: how long it was, the epochs, and whether its line could be written.
+// After a piece: how long it was, and what became of it.
 struct Taken {
     length: usize,
-    epochs: Epochs,
-    good: bool,
+    outcome: Outcome,
 }
 
 // After a turn: 0 to go on, 1 at the end, 2 where something failed.
 struct After {
     stream: Stream,
-    epochs: Epochs,
+    accounts: Accounts,
     state: u8,
 }
 
-// The next piece of what is left goes through the ledger.
+// The next piece of what is left goes to the ledger of its PRN.
 fn take_piece(
     program: &[u8],
     left: &[u8],
-    e: Epochs,
+    a: Accounts,
     how: How,
-    ledger: &mut [u8; 9216],
-    counts: &mut [u64; 21],
+    table: &mut [u8; TABLE_SIZE],
+    tally: &mut [u8; TALLY_SIZE],
+    refused: &mut [u64; REFUSED],
 ) -> Taken {
-    let step = log::take_next(ledger, left);
+    let step = table_log::take_next(table, left);
     let v = step.verdict;
     let n = cursor_in(left, step.length as usize);
-    let epochs = log::epochs::after(e, &left[..n], number_of(v) == 0);
-    let good = count_frame(program, &left[..n], v, how, counts);
-    Taken {
-        length: n,
-        epochs,
-        good,
-    }
+    let outcome = count_frame(program, &left[..n], v, a, how, table, tally, refused);
+    Taken { length: n, outcome }
 }
 
 // The stream after a piece of a length.
@@ -62,32 +59,35 @@ fn turn(
     program: &[u8],
     s: Stream,
     room: &[u8],
-    e: Epochs,
+    a: Accounts,
     how: How,
-    ledger: &mut [u8; 9216],
-    counts: &mut [u64; 21],
+    table: &mut [u8; TABLE_SIZE],
+    tally: &mut [u8; TALLY_SIZE],
+    refused: &mut [u64; REFUSED],
 ) -> After {
     let to = least(s.to, room.len());
     let from = least(s.from, to);
     if s.failed {
         return After {
             stream: s,
-            epochs: e,
+            accounts: a,
             state: 2,
         };
     }
     if from == to {
         return After {
             stream: s,
-            epochs: e,
+            accounts: a,
             state: 1,
         };
     }
-    let t = take_piece(program, &room[from..to], e, how, ledger, counts);
+    let t = take_piece(program, &room[from..to], a, how, table, tally, refused);
+    let o = t.outcome;
+    let accounts = o.accounts;
     After {
         stream: stream_after(s, from, to, t.length),
-        epochs: t.epochs,
-        state: if t.good { 0 } else { 2 },
+        accounts,
+        state: if o.good { 0 } else { 2 },
     }
 }
 
@@ -96,24 +96,26 @@ fn all_pieces(
     program: &[u8],
     s: Stream,
     room: &mut [u8],
+    first: Accounts,
     how: How,
-    ledger: &mut [u8; 9216],
-    counts: &mut [u64; 21],
+    table: &mut [u8; TABLE_SIZE],
+    tally: &mut [u8; TALLY_SIZE],
+    refused: &mut [u64; REFUSED],
 ) -> Outcome {
     let mut r = s;
-    let mut e = log::epochs::no_epochs();
+    let mut a = first;
     let mut state: u8 = 0;
     let mut left: u64 = 100000000000000000;
     while left > 0 && state == 0 {
         let f = filled(program, r, room);
-        let t = turn(program, f, room, e, how, ledger, counts);
+        let t = turn(program, f, room, a, how, table, tally, refused);
         r = t.stream;
-        e = t.epochs;
+        a = t.accounts;
         state = t.state;
         left -= 1;
     }
     Outcome {
-        epochs: e,
+        accounts: a,
         good: state == 1,
     }
 }
@@ -123,17 +125,21 @@ pub fn take_logs(
     program: &[u8],
     i: usize,
     count: usize,
+    first: Accounts,
     how: How,
-    ledger: &mut [u8; 9216],
-    counts: &mut [u64; 21],
+    table: &mut [u8; TABLE_SIZE],
+    tally: &mut [u8; TALLY_SIZE],
+    refused: &mut [u64; REFUSED],
 ) -> Outcome {
     let mut room = io::large_buffer();
     all_pieces(
         program,
         crate::stream::begin(i, count),
         &mut room,
+        first,
         how,
-        ledger,
-        counts,
+        table,
+        tally,
+        refused,
     )
 }

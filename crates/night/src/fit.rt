@@ -13,8 +13,10 @@ use row::RowAnswer;
 use row::slot_row;
 use slots::Slot;
 
-// What the limits are held against: how many rows, frames refused and frames in all, the age of the oldest clock of a row, the longest gap.
+// What the limits are held against: how many rows, frames refused and frames in all, the age of the oldest clock of a row, the longest gap. A PRN
+// that is not 0 is named by each line.
 pub(crate) struct Found {
+    pub prn: u8,
     pub rows: u32,
     pub refused: u64,
     pub all: u64,
@@ -96,12 +98,23 @@ pub(crate) fn is_unfit(f: Found, o: Options) -> bool {
     is_few(f, o) | is_refused(f, o) | is_old(f, o) | is_torn(f, o)
 }
 
+// How a line begins.
+fn put_start(room: &mut [u8], at: usize, prn: u8) -> usize
+    ensures { λ r. ⌜ Counts r (now (room .exit)) ⌝ }
+{
+    if prn == 0 {
+        return put_bytes(room, at, b"unfit");
+    }
+    let a = put_bytes(room, at, b"prn ");
+    let b = put_number(room, a, prn as u64);
+    put_bytes(room, b, b" unfit")
+}
+
 // A line: what was found, and the limit.
 fn put_limit(room: &mut [u8], at: usize, word: &[u8], x: u64, side: &[u8], limit: u64) -> usize
     ensures { λ r. ⌜ Counts r (now (room .exit)) ⌝ }
 {
-    let a = put_bytes(room, at, b"unfit");
-    let b = put_field(room, a, word, x);
+    let b = put_field(room, at, word, x);
     let c = put_field(room, b, side, limit);
     put_byte(room, c, 10)
 }
@@ -111,7 +124,8 @@ fn put_few(room: &mut [u8], at: usize, f: Found, o: Options) -> usize
     ensures { λ r. ⌜ Counts r (now (room .exit)) ⌝ }
 {
     if is_few(f, o) {
-        return put_limit(room, at, b"rows", f.rows as u64, b"below", o.rows as u64);
+        let a = put_start(room, at, f.prn);
+        return put_limit(room, a, b"rows", f.rows as u64, b"below", o.rows as u64);
     }
     cursor_in(room, at)
 }
@@ -123,8 +137,8 @@ fn put_refused(room: &mut [u8], at: usize, f: Found, o: Options) -> usize
     if !is_refused(f, o) {
         return cursor_in(room, at);
     }
-    let a = put_bytes(room, at, b"unfit refused ");
-    let b = put_number(room, a, f.refused);
+    let a = put_start(room, at, f.prn);
+    let b = put_field(room, a, b"refused", f.refused);
     let c = put_field(room, b, b"of", f.all);
     let d = put_field(room, c, b"above", o.percent as u64);
     put_bytes(room, d, b" percent\n")
@@ -135,7 +149,8 @@ fn put_old(room: &mut [u8], at: usize, f: Found, o: Options) -> usize
     ensures { λ r. ⌜ Counts r (now (room .exit)) ⌝ }
 {
     if is_old(f, o) {
-        return put_limit(room, at, b"age", f.age as u64, b"above", o.age as u64);
+        let a = put_start(room, at, f.prn);
+        return put_limit(room, a, b"age", f.age as u64, b"above", o.age as u64);
     }
     cursor_in(room, at)
 }
@@ -145,7 +160,8 @@ fn put_torn(room: &mut [u8], at: usize, f: Found, o: Options) -> usize
     ensures { λ r. ⌜ Counts r (now (room .exit)) ⌝ }
 {
     if is_torn(f, o) {
-        return put_limit(room, at, b"gap", f.gap as u64, b"above", o.gap as u64);
+        let a = put_start(room, at, f.prn);
+        return put_limit(room, a, b"gap", f.gap as u64, b"above", o.gap as u64);
     }
     cursor_in(room, at)
 }

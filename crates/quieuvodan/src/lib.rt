@@ -41,6 +41,7 @@ use verdict::number_of;
 use writing::write;
 
 pub mod sheet;
+pub mod tables;
 
 // The bytes of a ledger.
 pub(crate) const LEDGER_SIZE: usize = 9216;

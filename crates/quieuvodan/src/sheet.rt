@@ -1,11 +1,17 @@
-// Correction sheets at the C boundary: 02, CR 7 and CR 10.
+// Correction sheets at the C boundary, of a ledger and of a PRN in a table: 02, CR 7, CR 10 and CR 14.
 ghost use mathlib.Core.Path.{_≡_};
+ghost use Prim.Native.Nat.{ℕ, _+_, _*_, _≤_};
+ghost use mathlib.Core.List.{[], _∷_};
 ghost use lib.ListN.{length};
 ghost use Rattle.bits.specs.Bytes.{storeAt};
 ghost use Rattle.sheet_form.specs.Reading.{rowsSaidFrom};
-ghost use Rattle.sheet_writing.specs.Writing.{sheetSays};
+ghost use Rattle.verdict.specs.Verdict.{numberIn};
+ghost use Rattle.sheet_writing.specs.Writing.{mostSheetRows, sheetSays};
+ghost use Rattle.sheet_checking.specs.Checking.{checkedSays};
 ghost use Rattle.boundary.specs.Boundary.{rowsBytes};
 ghost use Rattle.boundary.specs.Sheet.{writtenIn, writeSheetAnswer, writeSheetRoom, headerBytes, readSheetAnswer, readSheetHeader, readSheetRows, checkSheetAnswer};
+ghost use Rattle.boundary.specs.Detail.{detailIn};
+ghost use Rattle.boundary.specs.Table.{tableSheetAnswer, tableSheetRoom, tableSheetTally, tableCheckAnswer, tableCheckTally};
 use crate::LEDGER_SIZE;
 use crate::ROW_SIZE;
 use crate::ROWS_SIZE;
@@ -19,6 +25,8 @@ use sheet_reading::row_said;
 use sheet_writing::MOST_ROWS;
 use sheet_writing::Sheet;
 use sheet_writing::write_sheet;
+use tally::TALLY_SIZE;
+use tally::count;
 
 // The bytes of what a sheet's header says.
 const SHEET_HEADER_SIZE: usize = 5;
@@ -96,15 +104,11 @@ pub extern "C" fn qvd_read_sheet(sheet: &[u8], header: &mut [u8], rows: &mut [u8
     }
 }
 
-// A partner's sheet is checked: 256 times how many of our rows it left out. 1, 17, 20, 23 with its offset, 24 to 26 with their row, 27, 39.
-#[no_mangle]
-pub extern "C" fn qvd_check_sheet(ledger: &[u8], issues: &[u16], sheet: &[u8]) -> u32
-    ensures { λ r. ⌜ r ≡ checkSheetAnswer (now (ledger .entry)) (now (issues .entry)) (now (sheet .entry)) ⌝ }
+// What a checker's answer says in one number: 256 times the rows left out, or the refusal number and 256 times the value beside it.
+fn checked(a: Checked) -> u32
+    requires { ⌜ ((at : ℕ) → 23 ∷ at ∷ [] ≡ checkedSays a → at ≤ 8 + 24 * mostSheetRows + 3) ⌝ }
+    ensures { λ r. ⌜ r ≡ detailIn (checkedSays a) ⌝ }
 {
-    if ledger.len() != LEDGER_SIZE {
-        return 39;
-    }
-    let a = check_sheet(ledger, issues, sheet);
     match a {
         Checked::Accepted(left) => 256 * (left as u32),
         Checked::Refused(n) => n as u32,
@@ -113,4 +117,80 @@ pub extern "C" fn qvd_check_sheet(ledger: &[u8], issues: &[u16], sheet: &[u8]) -
         Checked::Other(k) => 25 + 256 * (k as u32),
         Checked::Repeated(k) => 26 + 256 * (k as u32),
     }
+}
+
+// A partner's sheet is checked: 256 times how many of our rows it left out. 1, 17, 20, 23 with its offset, 24 to 26 with their row, 27, 39.
+#[no_mangle]
+pub extern "C" fn qvd_check_sheet(ledger: &[u8], issues: &[u16], sheet: &[u8]) -> u32
+    ensures { λ r. ⌜ r ≡ checkSheetAnswer (now (ledger .entry)) (now (issues .entry)) (now (sheet .entry)) ⌝ }
+{
+    if ledger.len() != LEDGER_SIZE {
+        return 39;
+    }
+    checked(check_sheet(ledger, issues, sheet))
+}
+
+// The number of a writer's answer, 0 where a sheet is written.
+fn written_number(a: Sheet) -> u8
+    ensures { λ r. ⌜ r ≡ sheetSays a .0 ⌝ }
+{
+    match a {
+        Sheet::Written(_) => 0,
+        Sheet::Refused(n) => n,
+    }
+}
+
+// The number of a checker's answer, 0 where a sheet is accepted.
+fn checked_number(a: Checked) -> u8
+    ensures { λ r. ⌜ r ≡ numberIn (checkedSays a) ⌝ }
+{
+    match a {
+        Checked::Accepted(_) => 0,
+        Checked::Refused(n) => n,
+        Checked::Wrong(_) => 23,
+        Checked::Unknown(_) => 24,
+        Checked::Other(_) => 25,
+        Checked::Repeated(_) => 26,
+    }
+}
+
+// The sheet of the list of a PRN in a table is written; on a refusal the room is as it was. 1, 17, 20, 22, 30, 39.
+#[no_mangle]
+pub extern "C" fn qvd_table_write_sheet(
+    table: &[u8],
+    tally: &mut [u8],
+    prn: u8,
+    issues: &[u16],
+    room: &mut [u8],
+) -> u32
+    ensures answer { λ r. ⌜ r ≡ tableSheetAnswer (now (table .entry)) (now (tally .entry)) prn (now (issues .entry)) (now (room .entry)) ⌝ }
+    ensures bytes { λ r. ⌜ now (room .exit) ≡ tableSheetRoom (now (table .entry)) (now (tally .entry)) prn (now (issues .entry)) (now (room .entry)) ⌝ }
+    ensures tally { λ r. ⌜ now (tally .exit) ≡ tableSheetTally (now (table .entry)) (now (tally .entry)) prn (now (issues .entry)) (now (room .entry)) ⌝ }
+{
+    if tally.len() != TALLY_SIZE {
+        return 39;
+    }
+    let a = table_list::write_sheet(room, table, prn, issues);
+    count(tally, written_number(a));
+    written(a)
+}
+
+// A partner's sheet is checked against the list of a PRN in a table. 1, 17, 20, 23 with its offset, 24 to 26 with their row, 27, 30, 39.
+#[no_mangle]
+pub extern "C" fn qvd_table_check_sheet(
+    table: &[u8],
+    tally: &mut [u8],
+    prn: u8,
+    issues: &[u16],
+    sheet: &[u8],
+) -> u32
+    ensures answer { λ r. ⌜ r ≡ tableCheckAnswer (now (table .entry)) (now (tally .entry)) prn (now (issues .entry)) (now (sheet .entry)) ⌝ }
+    ensures tally { λ r. ⌜ now (tally .exit) ≡ tableCheckTally (now (table .entry)) (now (tally .entry)) prn (now (issues .entry)) (now (sheet .entry)) ⌝ }
+{
+    if tally.len() != TALLY_SIZE {
+        return 39;
+    }
+    let a = table_list::check_sheet(table, prn, issues, sheet);
+    count(tally, checked_number(a));
+    checked(a)
 }

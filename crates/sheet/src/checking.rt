@@ -2,14 +2,20 @@
 ghost use Rattle.io.specs.Counts.{Counts};
 use crate::file::ROOM;
 use crate::reading::put_wrong;
+use crate::writing::how;
+use crate::writing::prn_of;
 use console::put::cursor_in;
 use console::put::put_byte;
 use console::put::put_bytes;
 use console::put::put_field;
 use console::put::put_number;
+use log_files::accounts::REFUSED;
 use log_files::command::take_night;
 use sheet_checking::Checked;
 use sheet_checking::check_sheet;
+use table_form::TABLE_SIZE;
+use table_form::ledger_for;
+use tally::TALLY_SIZE;
 
 // The line of a sheet that is accepted.
 fn put_accepted(room: &mut [u8], left: u16) -> usize
@@ -61,10 +67,10 @@ fn status_of(c: Checked) -> u8 {
     0
 }
 
-// A sheet is checked against a ledger and issues, and the answer goes to standard output; the answer here is the status.
-fn write_checked(sheet: &[u8], ledger: &[u8; 9216], issues: &[u16; 255]) -> u8 {
+// A sheet is checked against a PRN's ledger and issues, and the answer goes to standard output; the answer here is the status.
+fn write_checked(sheet: &[u8], table: &[u8; TABLE_SIZE], prn: u8, issues: &[u16; 255]) -> u8 {
     let mut room = [0u8; 80];
-    let c = check_sheet(ledger, issues, sheet);
+    let c = check_sheet(ledger_for(table, prn), issues, sheet);
     let n = put_checked(&mut room, c);
     if console::out::write(b"sheet", &room[..n]) {
         return status_of(c);
@@ -74,15 +80,23 @@ fn write_checked(sheet: &[u8], ledger: &[u8; 9216], issues: &[u16; 255]) -> u8 {
 
 // A sheet, and PRN, ISSUES and the logs from argument i on, of count; the answer is the status.
 fn check(sheet: &[u8], i: usize, count: usize, mixed: bool) -> u8 {
-    let mut ledger = [0u8; 9216];
-    let mut counts = [0u64; 21];
-    let how = crate::writing::how();
-    let heard = take_night(b"sheet", i, count, mixed, how, &mut ledger, &mut counts);
+    let mut table = [0u8; TABLE_SIZE];
+    let mut tally = [0u8; TALLY_SIZE];
+    let mut refused = [0u64; REFUSED];
+    let heard = take_night(
+        b"sheet",
+        i,
+        count,
+        how(mixed),
+        &mut table,
+        &mut tally,
+        &mut refused,
+    );
     if heard.state == 2 {
         return 1;
     }
     let issues = heard.issues;
-    write_checked(sheet, &ledger, &issues)
+    write_checked(sheet, &table, prn_of(heard), &issues)
 }
 
 // FILE is argument i of count, PRN, ISSUES and the logs stand behind it; the answer is the status.

@@ -5,10 +5,10 @@ use Rattle.log_files.proofs.mixed.all_lines.Statement.{statement}
 use Rattle.log_files.proofs.mixed.all_lines.Tie as tie
 
 abbrev Inv-loop : tie.InvT-loop
-Inv-loop program fd name room₀ how ledger₀ counts₀ l₀ h₀ state₀ left₀ room ledger counts l h state left = length room ≡ length room₀
+Inv-loop program fd name room₀ how table₀ tally₀ refused₀ l₀ h₀ state₀ left₀ room table tally refused l h state left = length room ≡ length room₀
 
 abbrev μ-loop : tie.MeasureT-loop
-μ-loop program fd name room₀ how ledger₀ counts₀ l₀ h₀ state₀ left₀ room ledger counts l h state left = left
+μ-loop program fd name room₀ how table₀ tally₀ refused₀ l₀ h₀ state₀ left₀ room table tally refused l h state left = left
 
 begin-requires : tie.Need-begin-requires Inv-loop μ-loop
 begin-requires c κs = search needs

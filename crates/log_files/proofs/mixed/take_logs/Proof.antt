@@ -4,13 +4,10 @@ use Rattle.log_files.proofs.mixed.take_logs.Statement.{statement}
 use Rattle.log_files.proofs.mixed.take_logs.Tie as tie
 
 abbrev Inv-loop : tie.InvT-loop
-Inv-loop program i count how ledger₀ counts₀ h₀ state₀ k₀ ledger counts h state k = Unit {0}
+Inv-loop program i count how table₀ tally₀ refused₀ h₀ state₀ k₀ table tally refused h state k = Unit {0}
 
 abbrev μ-loop : tie.MeasureT-loop
-μ-loop program i count how ledger₀ counts₀ h₀ state₀ k₀ ledger counts h state k = count - k
-
-begin-requires : tie.Need-begin-requires Inv-loop μ-loop
-begin-requires c κs = search needs
+μ-loop program i count how table₀ tally₀ refused₀ h₀ state₀ k₀ table tally refused h state k = count - k
 
 loop-holds : tie.Need-loop-holds Inv-loop μ-loop
 loop-holds c = search needs
@@ -39,7 +36,6 @@ take-logs-spec =
     (tie.spec
     Inv-loop
     μ-loop
-    begin-requires
     loop-holds
     take-log-requires
     add-k

@@ -7,18 +7,14 @@ use Rattle.log_files.proofs.plain.all_pieces.Statement.{statement}
 use Rattle.log_files.proofs.plain.all_pieces.Tie as tie
 use Rattle.log_files.proofs.plain.all_pieces.Reads as reads
 use Rattle.log_files.proofs.plain.all_pieces.Lts as lts
-use Rattle.log.proofs.epochs.no_epochs.Reads as no-epochs-reads
 use Rattle.log_files.proofs.plain.turn.Reads as turn-reads
 use Rattle.log_files.proofs.stream.filled.Reads as filled-reads
 
 abbrev Inv-loop : tie.InvT-loop
-Inv-loop program room₀ how ledger₀ counts₀ r₀ e₀ state₀ left₀ room ledger counts r e state left = length room ≡ length room₀
+Inv-loop program room₀ how table₀ tally₀ refused₀ r₀ a₀ state₀ left₀ room table tally refused r a state left = length room ≡ length room₀
 
 abbrev μ-loop : tie.MeasureT-loop
-μ-loop program room₀ how ledger₀ counts₀ r₀ e₀ state₀ left₀ room ledger counts r e state left = left
-
-no-epochs-requires : tie.Need-no-epochs-requires Inv-loop μ-loop
-no-epochs-requires c κs = search needs
+μ-loop program room₀ how table₀ tally₀ refused₀ r₀ a₀ state₀ left₀ room table tally refused r a state left = left
 
 loop-holds : tie.Need-loop-holds Inv-loop μ-loop
 loop-holds c = search needs
@@ -50,7 +46,6 @@ all-pieces-spec =
     (tie.spec
     Inv-loop
     μ-loop
-    no-epochs-requires
     loop-holds
     filled-requires
     turn-requires

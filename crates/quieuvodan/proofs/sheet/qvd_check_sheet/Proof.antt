@@ -1,17 +1,8 @@
 use borrow.Author.Needs.{needs}
-use native.Mathlib.Omega.{arith}
-use Prim.Native.Nat.{_≤_}
-use mathlib.Core.Path.{sym, ap, _∙_}
-use Rattle.sheet_checking.specs.Checking.{checkedSays}
+use mathlib.Core.Path.{_∙_}
 use Rattle.boundary.proofs.CheckSheetLaws.{check-near, check-sheet-size, check-sheet-right}
 use Rattle.quieuvodan.proofs.sheet.qvd_check_sheet.Statement.{statement}
 use Rattle.quieuvodan.proofs.sheet.qvd_check_sheet.Tie as tie
-
--- the offset of a sheet that cannot be read
-near : (c : tie.After-known-told3) → c .before .a3 .given .0 .0 ≤ 4187
-near c =
-    let a = c .before .before .before .before .before .before .before .before .args in
-    omega (arith, check-near (a .ledger .now) (a .issues .now) (a .sheet .now) (c .before .a3 .given .0 .0) (sym (ap checkedSays (c .before .a3 .given .1)) ∙ c .before .before .before .check-sheet .ensures))
 
 returns : tie.Need-returns
 returns c = let a = c .before .before .before .before .args in check-sheet-size (a .ledger .now) (a .issues .now) (a .sheet .now) (c .if1 .taken)
@@ -19,125 +10,13 @@ returns c = let a = c .before .before .before .before .args in check-sheet-size 
 check-sheet-requires : tie.Need-check-sheet-requires
 check-sheet-requires c κs = search needs
 
-enum-known-a : tie.Need-enum-known-a
-enum-known-a c = search needs
-
-cast-result : tie.Need-cast-result
-cast-result c = search needs
-
-mul-result : tie.Need-mul-result
-mul-result c = search needs
-
-enum-known-a-2 : tie.Need-enum-known-a-2
-enum-known-a-2 c = search needs
-
-cast-result-2 : tie.Need-cast-result-2
-cast-result-2 c = search needs
-
-enum-known-a-3 : tie.Need-enum-known-a-3
-enum-known-a-3 c = search needs
-
-mul-result-2 : tie.Need-mul-result-2
-mul-result-2 c = omega (arith, near c)
-
-add-result : tie.Need-add-result
-add-result c = omega (arith, near c)
-
-enum-known-a-4 : tie.Need-enum-known-a-4
-enum-known-a-4 c = search needs
-
-cast-result-3 : tie.Need-cast-result-3
-cast-result-3 c = search needs
-
-mul-result-3 : tie.Need-mul-result-3
-mul-result-3 c = search needs
-
-add-result-2 : tie.Need-add-result-2
-add-result-2 c = search needs
-
-enum-known-a-5 : tie.Need-enum-known-a-5
-enum-known-a-5 c = search needs
-
-cast-result-4 : tie.Need-cast-result-4
-cast-result-4 c = search needs
-
-mul-result-4 : tie.Need-mul-result-4
-mul-result-4 c = search needs
-
-add-result-3 : tie.Need-add-result-3
-add-result-3 c = search needs
-
-enum-known-a-6 : tie.Need-enum-known-a-6
-enum-known-a-6 c = search needs
-
-cast-result-5 : tie.Need-cast-result-5
-cast-result-5 c = search needs
-
-mul-result-5 : tie.Need-mul-result-5
-mul-result-5 c = search needs
-
-add-result-4 : tie.Need-add-result-4
-add-result-4 c = search needs
+checked-requires : tie.Need-checked-requires
+checked-requires c κs = λ at e. let a = c .before .before .before .before .before .args in check-near (a .ledger .now) (a .issues .now) (a .sheet .now) at (e ∙ c .check-sheet .ensures)
 
 returns-2 : tie.Need-returns-2
 returns-2 c =
-    let a = c .before .before .before .before .before .before .before .before .args in
-    check-sheet-right (a .ledger .now) (a .issues .now) (a .sheet .now) _ _ (c .before .before .before .before .if1 .left) (sym (ap checkedSays (c .before .a .given .1)) ∙ c .before .before .before .check-sheet .ensures) (omega arith)
-
-returns-3 : tie.Need-returns-3
-returns-3 c =
-    let a = c .before .before .before .before .before .before .before .before .args in
-    check-sheet-right (a .ledger .now) (a .issues .now) (a .sheet .now) _ _ (c .before .before .before .before .if1 .left) (sym (ap checkedSays (c .before .a2 .given .1)) ∙ c .before .before .before .check-sheet .ensures) (omega arith)
-
-returns-4 : tie.Need-returns-4
-returns-4 c =
-    let a = c .before .before .before .before .before .before .before .before .args in
-    check-sheet-right (a .ledger .now) (a .issues .now) (a .sheet .now) _ _ (c .before .before .before .before .if1 .left) (sym (ap checkedSays (c .before .a3 .given .1)) ∙ c .before .before .before .check-sheet .ensures) (omega arith)
-
-returns-5 : tie.Need-returns-5
-returns-5 c =
-    let a = c .before .before .before .before .before .before .before .before .args in
-    check-sheet-right (a .ledger .now) (a .issues .now) (a .sheet .now) _ _ (c .before .before .before .before .if1 .left) (sym (ap checkedSays (c .before .a4 .given .1)) ∙ c .before .before .before .check-sheet .ensures) (omega arith)
-
-returns-6 : tie.Need-returns-6
-returns-6 c =
-    let a = c .before .before .before .before .before .before .before .before .args in
-    check-sheet-right (a .ledger .now) (a .issues .now) (a .sheet .now) _ _ (c .before .before .before .before .if1 .left) (sym (ap checkedSays (c .before .a5 .given .1)) ∙ c .before .before .before .check-sheet .ensures) (omega arith)
-
-returns-7 : tie.Need-returns-7
-returns-7 c =
-    let a = c .before .before .before .before .before .before .before .before .args in
-    check-sheet-right (a .ledger .now) (a .issues .now) (a .sheet .now) _ _ (c .before .before .before .before .if1 .left) (sym (ap checkedSays (c .before .a6 .given .1)) ∙ c .before .before .before .check-sheet .ensures) (omega arith)
+    let a = c .before .before .before .before .before .before .args in
+    check-sheet-right (a .ledger .now) (a .issues .now) (a .sheet .now) _ _ (c .before .before .if1 .left) (c .before .check-sheet .ensures) (c .checked .ensures)
 
 pub qvd-check-sheet-spec : {M : Type 1} → statement M
-qvd-check-sheet-spec =
-    tie.close
-    (tie.spec
-    returns
-    check-sheet-requires
-    enum-known-a
-    cast-result
-    mul-result
-    enum-known-a-2
-    cast-result-2
-    enum-known-a-3
-    mul-result-2
-    add-result
-    enum-known-a-4
-    cast-result-3
-    mul-result-3
-    add-result-2
-    enum-known-a-5
-    cast-result-4
-    mul-result-4
-    add-result-3
-    enum-known-a-6
-    cast-result-5
-    mul-result-5
-    add-result-4
-    returns-2
-    returns-3
-    returns-4
-    returns-5
-    returns-6
-    returns-7)
+qvd-check-sheet-spec = tie.close (tie.spec returns check-sheet-requires checked-requires returns-2)

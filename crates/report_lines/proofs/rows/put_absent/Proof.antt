@@ -1,0 +1,66 @@
+use Rattle.io.proofs.Counting.{counts}
+use borrow.Author.Needs.{needs}
+use native.Mathlib.Omega.{arith}
+use Prim.Native.Nat.{ℕ, zero, suc, _+_, _*_, _-_, _/_, _%_, _^_, _≤_, _<_}
+use mathlib.Core.Path.{_≡_, sym, ap, _∙_, refl, subst}
+use lib.ListN.{length, getD}
+use Rattle.report_lines.proofs.rows.put_absent.Statement.{statement}
+use Rattle.report_lines.proofs.rows.put_absent.Tie as tie
+use Rattle.report_lines.proofs.rows.put_absent.Reads as reads
+use Rattle.report_lines.proofs.rows.put_absent.Lts as lts
+use Rattle.console.proofs.put.put_bytes.Reads as put-bytes-reads
+use Rattle.report_lines.proofs.rows.issue_of.Reads as issue-of-reads
+use Rattle.report_lines.proofs.rows.put_slot_absent.Reads as put-slot-absent-reads
+
+abbrev Inv-loop : tie.InvT-loop
+Inv-loop room₀ at ledger issues n₀ slot₀ room n slot = (length room ≡ length room₀) × (n ≤ length room) × (slot ≤ 255)
+
+abbrev μ-loop : tie.MeasureT-loop
+μ-loop room₀ at ledger issues n₀ slot₀ room n slot = 255 - slot
+
+slice-aggregate-put-bytes : tie.Need-slice-aggregate-put-bytes Inv-loop μ-loop
+slice-aggregate-put-bytes c = search needs
+
+put-bytes-requires : tie.Need-put-bytes-requires Inv-loop μ-loop
+put-bytes-requires c κs = search needs
+
+loop-holds : tie.Need-loop-holds Inv-loop μ-loop
+loop-holds c = search needs
+
+add-slot : tie.Need-add-slot Inv-loop μ-loop
+add-slot c = search needs
+
+issue-of-requires : tie.Need-issue-of-requires Inv-loop μ-loop
+issue-of-requires c κs = search needs
+
+put-slot-absent-requires : tie.Need-put-slot-absent-requires Inv-loop μ-loop
+put-slot-absent-requires c κs = search needs
+
+loop-less : tie.Need-loop-less Inv-loop μ-loop
+loop-less c = search needs
+
+loop-again : tie.Need-loop-again Inv-loop μ-loop
+loop-again c = search needs
+
+same-length : tie.Need-same-length Inv-loop μ-loop
+same-length c = search needs
+
+returns : tie.Need-returns Inv-loop μ-loop
+returns c = counts _ _ (omega arith)
+
+pub put-absent-spec : {M : Type 1} → statement M
+put-absent-spec =
+    tie.close
+    (tie.spec
+    Inv-loop
+    μ-loop
+    slice-aggregate-put-bytes
+    put-bytes-requires
+    loop-holds
+    add-slot
+    issue-of-requires
+    put-slot-absent-requires
+    loop-less
+    loop-again
+    same-length
+    returns)
