@@ -1,6 +1,7 @@
 /* make_logs FOLDER: writes the logs that are measured. base.log is one mask of
  * 57 satellites; type-N.log is that mask and then FRAMES good frames of type N,
- * with as many records as the type can hold; mixed.log is that mask and then
+ * with as many records as the type can hold; type-5.log has orbits of all satellites
+ * before the codes, which orbits.log has alone; mixed.log is that mask and then
  * MIXED good frames as a night has them. Always the same bytes. */
 #include "ref.h"
 
@@ -61,13 +62,41 @@ static void clocks(struct clock_part *part, unsigned kind, unsigned count, unsig
     }
 }
 
+/* A type 3 with as many biases as it has room for: 12 satellites, or 2 of the most. */
+static void biases(struct bias_part *part, unsigned step)
+{
+    bool many = step % 2 == 0;
+    part->epoch = 3600 + step;
+    part->iod_ssr = 1;
+    part->count = many ? 12 : 2;
+    for (unsigned i = 0; i < part->count; i++) {
+        part->sat[i].slot = (uint16_t)(19 + (step * 7 + i * 3) % 75);
+        part->sat[i].count = (uint8_t)(many ? 1 + (i < 5) : 15 - 5 * i);
+    }
+    for (unsigned i = 0; i < (many ? 17u : 25u); i++) {
+        part->bias[i].mode = (uint8_t)below(16);
+        part->bias[i].value = (int16_t)((int)below(4096) - 2048);
+    }
+}
+
+static void codes(struct code_part *part, unsigned step)
+{
+    part->epoch = 3600 + step;
+    part->iod_ssr = 1;
+    part->iodp = 5;
+    for (unsigned i = 0; i < SATELLITES; i++)
+        part->code[i] = (uint8_t)below(64);
+}
+
 static void fill(struct contents *c, unsigned kind, unsigned step)
 {
     c->kind = (uint8_t)kind;
     switch (kind) {
     case 1: mask(c, step); break;
     case 2: orbits(&c->orbits, ORBITS, step); break;
+    case 3: biases(&c->biases, step); break;
     case 4: clocks(&c->clocks, 4, CLOCKS, step); break;
+    case 5: codes(&c->codes, step); break;
     case 6:
     case 7:
         if (step % 2 == 0) {
@@ -91,8 +120,8 @@ static void fill(struct contents *c, unsigned kind, unsigned step)
  *    24 of type 4    the clocks: three sub-types every 6 seconds
  *     3 of type 6    clocks, or clocks and orbits, in between
  *     3 of type 7    the same by slot
- *     2 of type 63   nothing to say; the sample night has a type 3 in the place of
- *                    one of them, which is not taken
+ *     2 of type 63   nothing to say; the sample night has types 3 and 5 in the place of
+ *                    most of them, which are measured by themselves
  * and all frames are good, which in the sample night they are not. */
 
 static unsigned next_orbit; /* the satellite whose orbit is sent next, from 0 */
@@ -161,7 +190,19 @@ static void put(FILE *out, const struct contents *c)
     fwrite(frame, 1, FRAME_BYTES, out);
 }
 
-/* A log of the mask and then so many frames: of one type, or mixed if that is 0. */
+/* Orbits of all satellites. */
+static void put_all_orbits(FILE *out)
+{
+    next_orbit = 0;
+    do {
+        struct contents c = { .kind = 2 };
+        mixed_orbits(&c.orbits, ORBITS, 0);
+        put(out, &c);
+    } while (next_orbit != 0);
+}
+
+/* A log of the mask and then so many frames: of one type, or mixed if that is 0. Codes
+ * have orbits of all satellites before them. */
 static void make_log(const char *folder, const char *name, unsigned frames, unsigned kind)
 {
     char path[4096];
@@ -181,6 +222,8 @@ static void make_log(const char *folder, const char *name, unsigned frames, unsi
         else
             fill(&c, kind, step);
         put(out, &c);
+        if (step == 0 && kind == 5)
+            put_all_orbits(out);
     }
     if (fclose(out) != 0) {
         fprintf(stderr, "make_logs: %s: cannot be written\n", path);
@@ -202,5 +245,8 @@ int main(int argc, char **argv)
         make_log(argv[1], name, FRAMES, kinds[i]);
     }
     make_log(argv[1], "mixed", MIXED, 0);
+    make_log(argv[1], "type-3", FRAMES, 3);
+    make_log(argv[1], "orbits", 0, 5);
+    make_log(argv[1], "type-5", FRAMES, 5);
     return 0;
 }

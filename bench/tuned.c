@@ -53,8 +53,11 @@ INLINE uint64_t be64(const uint8_t *p) { return __builtin_bswap64(load64(p)); }
  * that it was placed by, or 0 if it was named by its slot. A clock with a number
  * that is neither 0 nor that of the mask in force has been dropped: a mask that
  * differs from the one before it gets the next number, and that drops all clocks
- * that came by place at once. The epochs stand beside the words. Entry 0 of both
- * takes what blank records and filler say, and is never looked at. */
+ * that came by place at once. The epochs stand beside the words. A URA code that
+ * replaces an orbit's is a word with the mask's number above the code, or 0: an orbit
+ * that comes into force clears it, so that one for a slot without an orbit may be
+ * stored like any other. Entry 0 of all takes what blank records and filler say, and
+ * is never looked at. */
 enum {
     ORBIT_HELD = 8,
     ORBIT_CORR = 51,     /* where the IOD Corr begins */
@@ -77,6 +80,7 @@ struct ledger {
     uint8_t slot_at[280];  /* slot_at[n] has place n; at least 23 zeros follow the last */
     uint64_t orbit[256];
     uint64_t clock[256];
+    uint64_t code[256];
     uint32_t orbit_epoch[256];
     uint32_t clock_epoch[256];
 } __attribute__((packed, may_alias));
@@ -459,6 +463,7 @@ INLINE void keep_orbit(struct ledger *l, uint32_t slot, uint64_t word, uint32_t 
         return;
     l->orbit[slot] = word;
     l->orbit_epoch[slot] = epoch;
+    l->code[slot] = 0;
 }
 
 INLINE void keep_clock(struct ledger *l, uint32_t slot, uint64_t word, uint32_t epoch)
@@ -705,6 +710,60 @@ INLINE unsigned take_by_slot(struct ledger *l, const uint8_t *frame, uint64_t x)
     return 0;
 }
 
+/* Type 3: the satellites begin with bit 62. Nothing is kept. */
+INLINE unsigned take_biases(const uint8_t *frame, uint64_t x)
+{
+    unsigned sats = x >> 26 & 31, at = 62, all = 0;
+    uint16_t slot[31];
+    uint8_t mark[512];
+
+    for (unsigned i = 0; i < sats; i++) {
+        uint32_t head = be32(frame + at / 8) << at % 8 >> 19; /* of the satellite: 13 bits */
+        at += 13 + 16 * (head & 15);
+        if (at > 28 + 462)
+            return 9;
+        slot[i] = (uint16_t)(head >> 4);
+        all |= slot[i];
+        mark[slot[i]] = (uint8_t)i;
+    }
+    if ((x >> 37 & 0x1FFFF) > LAST_EPOCH)
+        return 10;
+    if (all > 255)
+        return 11;
+    for (unsigned i = 0; i < sats; i++)
+        if (UNLIKELY(mark[slot[i]] != i))
+            return named_twice(slot, sats) ? 12 : 0;
+    return 0;
+}
+
+/* Type 5: code j, from 0, begins with bit 64 + 6 * j. They are taken by fours, of
+ * which the last may be filler, but there are only two behind the seventeenth. */
+INLINE unsigned take_codes(struct ledger *l, const uint8_t *frame, uint64_t x)
+{
+    unsigned before = 70 * (unsigned)(x >> 24 & 7), count;
+    const uint8_t *slot;
+    uint64_t number = l->tag >> CLOCK_NUMBER << 8;
+
+    if ((x >> 37 & 0x1FFFF) > LAST_EPOCH)
+        return 10;
+    if ((x >> 27 & 63) != l->key)
+        return 14;
+    if (before >= l->places)
+        return 15;
+    slot = l->slot_at + 1 + before;
+    count = l->places - before < 70 ? l->places - before : 70;
+    for (unsigned j = 0; j < count; j += 4) {
+        uint32_t w = be32(frame + 8 + 3 * (j / 4));
+        l->code[slot[j]] = number | w >> 26;
+        l->code[slot[j + 1]] = number | (w >> 20 & 63);
+        if (j == 68)
+            break;
+        l->code[slot[j + 2]] = number | (w >> 14 & 63);
+        l->code[slot[j + 3]] = number | (w >> 8 & 63);
+    }
+    return 0;
+}
+
 INLINE unsigned take(struct ledger *l, const uint8_t *frame)
 {
     uint64_t x;
@@ -728,6 +787,10 @@ INLINE unsigned take(struct ledger *l, const uint8_t *frame)
         return take_by_slot(l, frame, x);
     if (type == 1)
         return take_mask(l, frame, x);
+    if (type == 5)
+        return take_codes(l, frame, x);
+    if (type == 3)
+        return take_biases(frame, x);
     return type == 63 ? 0 : 8;
 }
 

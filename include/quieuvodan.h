@@ -52,12 +52,12 @@ extern "C" {
 enum {
     QVD_FRAME_BYTES = 125,
     QVD_MESSAGE_BYTES = 61,
-    QVD_LEDGER_BYTES = 9216,
+    QVD_LEDGER_BYTES = 9726,
     QVD_ISSUES = 255,
     QVD_ROW_BYTES = 27,
     QVD_MOST_ROWS = 174,
     QVD_ROWS_BYTES = 4698, /* QVD_MOST_ROWS rows */
-    QVD_CONTENTS_BYTES = 265,
+    QVD_CONTENTS_BYTES = 516,
     QVD_D1_BYTES = 38,      /* a subframe */
     QVD_D1_DATA_BYTES = 28, /* its information bits */
     QVD_CNAV1_BYTES = 75,   /* a subframe 2 */
@@ -85,14 +85,14 @@ enum {
     QVD_WITHDRAWN = 5,      /* first flag bit is 1 */
     QVD_PARITY = 6,         /* some parity group is not zero */
     QVD_CHECK = 7,          /* check bits wrong */
-    QVD_TYPE = 8,           /* type is not 1, 2, 4, 6, 7 or 63 */
-    QVD_PARTS_END = 9,      /* types 6, 7: parts end after bit 462 */
+    QVD_TYPE = 8,           /* type is not 1 to 7 or 63 */
+    QVD_PARTS_END = 9,      /* types 3, 6, 7: parts end after bit 462 */
     QVD_EPOCH = 10,         /* an epoch above 86399 */
     QVD_SLOT = 11,          /* a slot above 255; Slot_S 0 or above 255; a row asked for slot 0 or above 255; joining: PRN not 1 to 63 */
-    QVD_TWICE = 12,         /* one slot twice among orbit records, or among type 7 clock records */
+    QVD_TWICE = 12,         /* one slot twice among orbit records, type 7 clock records or satellites of type 3 */
                             /* 13 is given no more: a mask may have bits set in 175 to 255 */
-    QVD_MASK = 14,          /* no mask in force, or its IOD SSR or IODP differ */
-    QVD_PLACE = 15,         /* type 4: no satellite has the sub-type's first place */
+    QVD_MASK = 14,          /* types 4, 5, 6: no mask in force, or its IOD SSR or IODP differ */
+    QVD_PLACE = 15,         /* types 4, 5: no satellite has the sub-type's first place */
     QVD_FIELD = 16,         /* writing: a field exceeds its width, or no URA code gives the quarters; flags above 63 */
     QVD_ISSUE = 17,         /* an issue is neither 0 to 1023 nor 65535; joining: also an IODC above 1023 */
     QVD_NO_ROW = 18,        /* the slot does not qualify */
@@ -123,6 +123,7 @@ enum {
 enum { QVD_NO_ISSUE = 65535 };
 enum { QVD_BEIDOU = 1, QVD_GPS = 2, QVD_GALILEO = 3, QVD_GLONASS = 4 };
 enum { QVD_URA_UNKNOWN = 0, QVD_URA_QUARTERS = 1, QVD_URA_ABOVE = 2 };
+enum { QVD_BIAS_MM = 17 }; /* a code bias is its raw value times so many millimetres */
 
 /* The fields of a B-CNAV1 subframe 2 in the interface document's order. */
 enum {
@@ -144,10 +145,10 @@ enum {
  *      3  2  IODN                18  4  clock, s              the other kinds
  *      5  1  IOD Corr
  *
- * Contents, 265 bytes. Values are raw, as the message has them. A part that the
+ * Contents, 516 bytes. Values are raw, as the message has them. A part that the
  * type lacks, a blank record and a record past the count are all zero when they
  * are read, and are not looked at when they are written.
- *      0  1  type: 1, 2, 4, 6, 7 or 63
+ *      0  1  type: 1 to 7 or 63
  *      1  4  mask part: epoch
  *      5  1  IOD SSR
  *      6  1  IODP
@@ -167,8 +168,23 @@ enum {
  *    169  6 x 16  slot (2), IODN (2), IOD Corr (1), radial, along, cross (2 each, s),
  *                 URA: its kind (1) and quarters (4); any other kind than 1 and 2
  *                 is unknown, and quarters are looked at in kind 1 alone
+ *    265  4  bias part (type 3): epoch
+ *    269  1  IOD SSR
+ *    270  1  number of satellites, up to 31
+ *    271  31 x 3  slot (2), number of its biases (1), up to 15
+ *    364  25 x 3  signal and tracking mode (1), bias (2, s; -2048 to 2047): those of
+ *                 the first satellite, then those of the second, and so on. A blank,
+ *                 slot 0, has none: it is read with number 0, and its number is not
+ *                 looked at when it is written. Biases past the last satellite's are
+ *                 not looked at
+ *    439  4  code part (type 5): epoch
+ *    443  1  IOD SSR
+ *    444  1  IODP
+ *    445  1  sub-type, up to 7
+ *    446  70  URA codes, up to 63: 0 unknown, 63 above 5466.5 mm, the others
+ *             3^(code / 8) * (4 + code modulo 8) - 4 quarter millimetres
  *
- * A ledger is 9216 bytes that only these functions need to understand. Any bytes
+ * A ledger is 9726 bytes that only these functions need to understand. Any bytes
  * are some ledger; qvd_open makes a fresh one. Zero bytes, never opened, are a
  * ledger for no PRN: they refuse every frame. A ledger may be copied and stored.
  *
@@ -253,7 +269,8 @@ uint8_t qvd_next_piece(const uint8_t *bytes, size_t n);
 /* Gives the rows of all slots that qualify, one after the other in rising slot
  * order, then zeros; r is QVD_ROWS_BYTES. A row's first byte, its slot, is 1 to
  * 174: a slot above never qualifies, so that all rows stand in it whatever bytes
- * the ledger has. 1, 17, 39. */
+ * the ledger has. A row's URA is that of the orbit in force, or what a type 5 put
+ * in its place. 1, 17, 39. */
 uint8_t qvd_rows(const uint8_t *ledger, size_t n, const uint16_t *issues, size_t k,
                  uint8_t *rows, size_t r);
 

@@ -102,6 +102,27 @@ static unsigned long rows_of_any_bytes, subframes_corrected, frames_read_back;
 static unsigned long fields_at_end[CNAV1_FIELDS][3]; /* of subframes that were taken: smallest, largest, all ones */
 static unsigned long pieces_compared, pieces_of_length[FRAME_BYTES + 1], overlaps_seen;
 
+/* How often messages, contents and frames of each type were answered what. */
+enum { READING, WRITING, TAKING, DOINGS };
+static unsigned long of_type[64][DOINGS][MOST_VERDICT];
+
+/* What messages and contents of type 3 were like, and what the list owes to codes of
+ * type 5. Sub-types of type 5 that were read, taken and refused 15. */
+enum {
+    NO_SATELLITE, MOST_SATELLITES, MOST_BIASES, BLANK_INSIDE, STEPPED_OVER, STEPPED_TOO_FAR, READ_TO_462, READ_PAST_462,
+    WRITTEN_TO_462, WRITTEN_PAST_462, BLANK_WITH_COUNT, BLANK_SPARES, WRITTEN_MOST_BIASES, WRITTEN_31, WRITTEN_32,
+    LOWEST_BIAS, HIGHEST_BIAS, ROW_BY_CODE, ROW_BY_CODE_ALONE, NO_ROW_BY_CODE, CASES
+};
+static const char *const case_name[CASES] = {
+    "read without satellites", "read with 31", "read with 25 biases", "read with a blank inside",
+    "read with a blank's biases stepped over", "refused 9 by a blank's biases alone", "read to bit 462",
+    "read to bit 463 or 464 and refused", "written to bit 462", "written to bit 463 or 464 and refused",
+    "written with a blank that has a count", "written where a blank's biases would not fit", "written with 25 biases",
+    "written with 31 satellites", "refused 16 for 32 satellites", "with bias -2048", "with bias 2047",
+    "rows with the URA of a code", "rows by a code alone", "slots that a code keeps out of the list",
+};
+static unsigned long cases[CASES], subs_read[8], subs_taken[8], subs_refused[8];
+
 /* What came beside the numbers 6 and 19. */
 static bool first_seen[GROUPS + 1], failing_seen[GROUPS + 1], places_seen[SLOTS + 1];
 
@@ -467,14 +488,86 @@ static void put_type_7(const struct leaning *l)
         put_orbits(l, num_o);
 }
 
+/* Satellites and biases of a type 3: those that end at bit 462, just before it and
+ * just behind it; as many biases as one can hold; or any that fit, or by a slip do not. */
+static void some_bias_counts(unsigned *sats, unsigned *biases)
+{
+    static const uint8_t exact[][2] = { { 12, 17 }, { 28, 4 }, { 7, 21 }, { 23, 8 }, { 2, 25 } };
+    static const uint8_t beyond[][2] = { { 17, 13 }, { 17, 13 }, { 6, 22 }, { 6, 22 }, { 6, 22 }, { 22, 9 }, { 3, 25 }, { 2, 26 }, { 31, 2 } };
+    const uint8_t *pair = slip(18) ? PICK(beyond) : PICK(exact);
+    unsigned most;
+
+    *sats = pair[0];
+    *biases = pair[1];
+    if (pair[0] * 13u + pair[1] * 16u + 34 > CHECKED_BITS || chance(25))
+        return;
+    *sats = chance(5) ? 0 : chance(10) ? 31 : chance(50) ? below(8) : below(32);
+    most = (CHECKED_BITS - 34 - 13 * *sats) / 16;
+    if (most > 15 * *sats)
+        most = 15 * *sats;
+    *biases = chance(30) ? most : below(most + 1);
+    if (slip(4)) {
+        *sats = below(32);
+        *biases = below(15 * *sats + 1);
+    }
+}
+
+static uint32_t some_bias(void)
+{
+    static const uint16_t ends[] = { 0x800, 0x801, 0x7FF, 0, 0xFFF };
+    return chance(20) ? PICK(ends) : below(4096);
+}
+
+/* Blanks have their share of the biases, or none. */
+static void put_type_3(const struct leaning *l)
+{
+    unsigned sats, biases, blanks = chance(40) ? 0 : chance(50) ? 15 : 50;
+    bool bare = chance(30); /* blanks have none, where all fit */
+    uint16_t before[32];
+    uint8_t count[32] = { 0 };
+
+    some_bias_counts(&sats, &biases);
+    for (unsigned i = 0; i < biases && i < 15 * sats; i++) {
+        unsigned at = below(sats);
+        while (count[at] == 15)
+            at = (at + 1) % sats;
+        count[at]++;
+    }
+    put_head(l);
+    put(5, sats);
+    for (unsigned i = 0; i < sats; i++) {
+        unsigned slot = chance(blanks) ? 0 : fresh_slot(l, before, i);
+        if (slot == 0 && bare && 34 + 13 * sats + 16 * biases <= CHECKED_BITS)
+            count[i] = 0;
+        before[i] = (uint16_t)slot;
+        put(9, slot);
+        put(4, count[i]);
+        for (unsigned k = 0; k < count[i]; k++) {
+            put(4, below(16));
+            put(12, some_bias());
+        }
+    }
+}
+
+static void put_type_5(const struct leaning *l)
+{
+    unsigned subs = (l->places + 69) / 70, sub = subs > 0 ? below(subs) : 0;
+    if (slip(30))
+        sub = chance(30) ? subs : below(8);
+    put_mask_names(l);
+    put(3, sub);
+    for (unsigned j = 1; j <= CODES; j++)
+        put(6, some_ura());
+}
+
 static unsigned some_kind(void)
 {
-    static const uint8_t good[] = { 1, 2, 2, 2, 2, 4, 4, 4, 4, 4, 6, 6, 6, 6, 7, 7, 7, 7, 63 };
+    static const uint8_t good[] = { 1, 2, 2, 2, 2, 3, 3, 3, 4, 4, 4, 4, 4, 5, 5, 5, 6, 6, 6, 6, 7, 7, 7, 7, 63 };
     if (slip(8))
         return 1;
     if (slip(5)) {
         unsigned kind = below(64);
-        return chance(30) ? (chance(50) ? 3 : 5) : kind;
+        return chance(30) ? 8 * below(2) : kind;
     }
     return good[below(sizeof good)];
 }
@@ -497,7 +590,9 @@ static void make_message(struct leaning *l, unsigned kind, unsigned faulty_perce
         switch (kind) {
         case 1: put_mask(l); break;
         case 2: put_orbits(l, ORBITS); break;
+        case 3: put_type_3(l); break;
         case 4: put_type_4(l); break;
+        case 5: put_type_5(l); break;
         case 6: put_type_6(l); break;
         case 7: put_type_7(l); break;
         default: break;
@@ -518,8 +613,8 @@ static void make_message(struct leaning *l, unsigned kind, unsigned faulty_perce
 
 static unsigned some_mask_size(void)
 {
-    static const uint8_t sizes[] = { 0,  1,   2,   22,  23,  24,  45,  46,  47,  48,  68,  69,
-                                     70, 92,  115, 138, 161, 162, 173, 174, 175, 230, 254, 255 };
+    static const uint8_t sizes[] = { 0,  1,   2,   22,  23,  24,  45,  46,  47,  48,  68,  69,  70,  71,  92,
+                                     115, 138, 139, 140, 141, 161, 162, 173, 174, 175, 210, 211, 230, 254, 255 };
     return chance(60) ? sizes[below(sizeof sizes)] : chance(70) ? between(4, 60) : below(256);
 }
 
@@ -612,6 +707,54 @@ static size_t damage(uint8_t *frame, size_t most)
 
 /* ---- messages and frames without a ledger ---- */
 
+/* What the type 3 of 61 bytes is like that was answered so. */
+static void count_biases_read(const uint8_t *message, unsigned verdict)
+{
+    unsigned sats = ref_get_bits(message, 29, 5), at = 34, written = 34, biases = 0, stepped = 0, i = 0;
+    bool blank = false, inside = false;
+
+    for (; i < sats && at + 13 <= CHECKED_BITS; i++) {
+        unsigned slot = ref_get_bits(message, at, 9), count = ref_get_bits(message, at + 9, 4);
+        at += 13 + 16 * count;
+        written += 13 + (slot == 0 ? 0 : 16 * count);
+        biases += slot == 0 ? 0 : count;
+        stepped += slot == 0 ? count : 0;
+        inside = inside || (blank && slot != 0);
+        blank = blank || slot == 0;
+    }
+    if (verdict == 9 && i == sats) {
+        cases[READ_PAST_462] += at == 463 || at == 464;
+        cases[STEPPED_TOO_FAR] += written <= CHECKED_BITS;
+    }
+    if (verdict != 0)
+        return;
+    cases[NO_SATELLITE] += sats == 0;
+    cases[MOST_SATELLITES] += sats == BIAS_SATS;
+    cases[MOST_BIASES] += biases == BIASES;
+    cases[BLANK_INSIDE] += inside;
+    cases[STEPPED_OVER] += stepped > 0;
+    cases[READ_TO_462] += at == CHECKED_BITS;
+}
+
+/* A message of so many bytes and a frame of so many, by their type. */
+static void count_message(enum call call, const uint8_t *bytes, size_t n, unsigned verdict)
+{
+    bool message = call == READ;
+    unsigned kind;
+    if (n != (message ? (size_t)MESSAGE_BYTES : (size_t)FRAME_BYTES))
+        return;
+    kind = message ? ref_get_bits(bytes, 0, 6) : ref_frame_type(bytes);
+    of_type[kind][call == TAKE || call == TAKE_DETAIL ? TAKING : READING][verdict]++;
+    if (message && kind == 3)
+        count_biases_read(bytes, verdict);
+    if (message && kind == 5)
+        subs_read[ref_get_bits(bytes, 33, 3)] += verdict == 0;
+    if (!message && kind == 5 && (call == TAKE || call == TAKE_DETAIL)) {
+        subs_taken[ref_get_bits(bytes, 28 + 33, 3)] += verdict == 0;
+        subs_refused[ref_get_bits(bytes, 28 + 33, 3)] += verdict == 15;
+    }
+}
+
 /* By qvd_read, qvd_read_frame or qvd_read_frame_detail. */
 static void compare_reading(enum call call, const uint8_t *bytes, size_t n)
 {
@@ -639,6 +782,7 @@ static void compare_reading(enum call call, const uint8_t *bytes, size_t n)
         same_detail(call, library, reference, &detail);
     else
         same_verdict(call, library, reference);
+    count_message(call, bytes, n, reference);
     lent_is_right("contents");
     same_bytes("the input afterwards", input, bytes, n);
 }
@@ -703,6 +847,12 @@ enum {
     F_ORBITS = 163,
     F_NUM_O = 168,
     F_ORBIT = 169,
+    F_BIASES = 265,
+    F_SATS = 270,
+    F_SAT = 271,
+    F_BIAS = 364,
+    F_CODES = 439,
+    F_CODE = 446,
     MASK_BYTES = 32
 };
 
@@ -814,6 +964,90 @@ static void tweak_orbits(uint8_t *form)
         tweak_orbit(form);
 }
 
+static unsigned form_slot(const uint8_t *form, size_t at) { return (unsigned)form[at] << 8 | form[at + 1]; }
+
+/* The biases of a type 3's satellites that are no blanks. */
+static unsigned form_biases(const uint8_t *form)
+{
+    unsigned biases = 0;
+    for (unsigned i = 0; i < form[F_SATS] && i < BIAS_SATS; i++)
+        if (form_slot(form, F_SAT + 3 * (size_t)i) != 0)
+            biases += form[F_SAT + 3 * (size_t)i + 2];
+    return biases;
+}
+
+/* Satellites and biases that end at bit 462 or just behind it, are the most that
+ * there can be, or one more; some satellites are blanks that have a count of their own. */
+static void tweak_bias_counts(uint8_t *form)
+{
+    static const uint8_t pairs[][2] = { { 12, 17 }, { 28, 4 }, { 17, 13 }, { 6, 22 }, { 22, 9 }, { 2, 25 }, { 2, 26 },
+                                        { 31, 1 }, { 31, 2 }, { 32, 0 }, { 32, 0 }, { 32, 0 }, { 32, 1 }, { 33, 0 } };
+    const uint8_t *pair = PICK(pairs);
+    unsigned sats = pair[0] < BIAS_SATS ? pair[0] : BIAS_SATS, blanks = chance(50) ? 0 : chance(50) ? 20 : 60, named = 0;
+
+    form[F_SATS] = pair[0];
+    for (unsigned i = 0; i < BIAS_SATS; i++) {
+        size_t at = F_SAT + 3 * (size_t)i;
+        bool blank = i + 1 < sats && chance(blanks);
+        form_put(form, at, 2, blank ? 0 : 1 + 8 * i + below(8));
+        form_put(form, at + 2, 1, blank ? below(16) : 0);
+        named += i < sats && !blank;
+    }
+    for (unsigned left = pair[1], i = 0; left > 0 && left <= 15 * named; i = (i + 1) % sats)
+        if (form_slot(form, F_SAT + 3 * (size_t)i) != 0 && form[F_SAT + 3 * (size_t)i + 2] < 15 && chance(50)) {
+            form[F_SAT + 3 * (size_t)i + 2]++;
+            left--;
+        }
+    for (unsigned i = 0; i < BIASES; i++) {
+        form_put(form, F_BIAS + 3 * (size_t)i, 1, below(16));
+        form_put(form, F_BIAS + 3 * (size_t)i + 1, 2, below(4096) - 2048u);
+    }
+}
+
+static void tweak_biases(uint8_t *form)
+{
+    static const uint8_t counts[] = { 0, 1, 14, 15, 16, 17, 24, 25, 26, 255 };
+    static const uint8_t sats[] = { 0, 1, 2, 30, 31, 32, 33, 34, 255 };
+    static const uint8_t modes[] = { 0, 15, 16, 17, 128, 255 };
+    static const uint16_t values[] = { 0, 2047, 2048, 63488, 63487, 4095, 4096, 32767, 32768, 65535 };
+    unsigned most = form[F_SATS] > 0 && form[F_SATS] <= BIAS_SATS ? form[F_SATS] : BIAS_SATS, biases = form_biases(form);
+    size_t sat = F_SAT + 3 * (size_t)(chance(85) ? below(most) : below(BIAS_SATS));
+    size_t bias = F_BIAS + 3 * (size_t)(biases > 0 && biases <= BIASES && chance(85) ? below(biases) : below(BIASES));
+    switch (below(16)) {
+    case 0:
+    case 1: tweak_head(form, F_BIASES); break;
+    case 2:
+    case 3:
+    case 4:
+    case 13:
+    case 14: tweak_slot(form, sat, F_SAT + 3 * (size_t)below(most)); break;
+    case 5: form_put(form, sat + 2, 1, PICK(counts)); break;
+    case 6: form_put(form, F_SATS, 1, PICK(sats)); break;
+    case 7: form_put(form, bias, 1, PICK(modes)); break;
+    case 8:
+    case 9: form_put(form, bias + 1, 2, PICK(values)); break;
+    default: tweak_bias_counts(form); break;
+    }
+}
+
+static void tweak_codes(uint8_t *form)
+{
+    static const uint8_t iodps[] = { 0, 15, 16, 255 };
+    static const uint8_t subs[] = { 0, 1, 3, 4, 7, 8, 255 };
+    static const uint8_t codes[] = { 0, 1, 62, 63, 64, 127, 128, 255 };
+    switch (below(6)) {
+    case 0:
+    case 1: tweak_head(form, F_CODES); break;
+    case 2: form_put(form, F_CODES + 5, 1, PICK(iodps)); break;
+    case 3: form_put(form, F_CODES + 6, 1, PICK(subs)); break;
+    default: {
+        size_t at = F_CODE + (chance(20) ? 0 : chance(20) ? CODES - 1 : below(CODES));
+        form_put(form, at, 1, PICK(codes));
+        break;
+    }
+    }
+}
+
 /* The counts of a type 6 or 7 that just fit, or just do not. */
 static void tweak_counts(uint8_t *form)
 {
@@ -846,9 +1080,15 @@ static void tweak(uint8_t *form)
         tweak_orbits(form);
     } else if (kind == 4 && chance(90)) {
         tweak_clocks(form);
+    } else if (kind == 3 && chance(90)) {
+        tweak_biases(form);
+    } else if (kind == 5 && chance(90)) {
+        tweak_codes(form);
     } else {
-        switch (below(9)) {
+        switch (below(11)) {
         case 0: tweak_mask(form); break;
+        case 9: tweak_biases(form); break;
+        case 10: tweak_codes(form); break;
         case 1:
         case 2:
         case 3:
@@ -881,6 +1121,17 @@ static void junk_unread(uint8_t *form)
         num_c = form[F_NUM_C] < CLOCKS ? form[F_NUM_C] : CLOCKS;
         num_o = form[F_NUM_O] < ORBITS ? form[F_NUM_O] : ORBITS;
     }
+    if (kind == 3) {
+        keep(form, from, F_BIASES, F_SAT - F_BIASES);
+        for (unsigned i = 0; i < form[F_SATS] && i < BIAS_SATS; i++) {
+            size_t at = F_SAT + 3 * (size_t)i;
+            keep(form, from, at, from[at] == 0 && from[at + 1] == 0 ? 2 : 3);
+        }
+        for (unsigned i = 0; i < form_biases(from) && i < BIASES; i++)
+            keep(form, from, F_BIAS + 3 * (size_t)i, 3);
+    } else if (kind == 5) {
+        keep(form, from, F_CODES, QVD_CONTENTS_BYTES - F_CODES);
+    }
     if (num_c > 0) {
         keep(form, from, F_CLOCKS, 5);
         if (kind != 7)
@@ -903,6 +1154,29 @@ static void junk_unread(uint8_t *form)
     }
 }
 
+/* What the contents of type 3 are like that were answered so. */
+static void count_biases_written(const uint8_t *form, unsigned verdict)
+{
+    unsigned sats = form[F_SATS], biases = form_biases(form), end = 34 + 13 * sats + 16 * biases, spared = 0;
+
+    for (unsigned i = 0; i < sats && i < BIAS_SATS; i++)
+        if (form_slot(form, F_SAT + 3 * (size_t)i) == 0)
+            spared += form[F_SAT + 3 * (size_t)i + 2];
+    cases[WRITTEN_PAST_462] += verdict == 9 && (end == 463 || end == 464);
+    cases[WRITTEN_32] += verdict == 16 && sats == 32;
+    if (verdict != 0)
+        return;
+    cases[WRITTEN_TO_462] += end == CHECKED_BITS;
+    cases[BLANK_WITH_COUNT] += spared > 0;
+    cases[BLANK_SPARES] += end + 16 * spared > CHECKED_BITS;
+    cases[WRITTEN_MOST_BIASES] += biases == BIASES;
+    cases[WRITTEN_31] += sats == BIAS_SATS;
+    for (unsigned i = 0; i < biases; i++) {
+        cases[LOWEST_BIAS] += form_slot(form, F_BIAS + 3 * (size_t)i + 1) == 63488;
+        cases[HIGHEST_BIAS] += form_slot(form, F_BIAS + 3 * (size_t)i + 1) == 2047;
+    }
+}
+
 static void compare_writing(const uint8_t *form, size_t n, size_t room)
 {
     uint8_t *input = input_end - n, *output;
@@ -921,13 +1195,17 @@ static void compare_writing(const uint8_t *form, size_t n, size_t room)
         reference = ref_write(&c, lent.should + MARGIN, room);
     }
     same_verdict(WRITE, library, reference);
+    if (n == QVD_CONTENTS_BYTES && form[F_KIND] < 64)
+        of_type[form[F_KIND]][WRITING][reference]++;
+    if (n == QVD_CONTENTS_BYTES && form[F_KIND] == 3)
+        count_biases_written(form, reference);
     lent_is_right("room");
     same_bytes("the input afterwards", input, form, n);
 }
 
 static void compare_writes(unsigned long count)
 {
-    static const uint8_t kinds[] = { 1, 1, 1, 2, 2, 2, 4, 4, 4, 6, 6, 6, 6, 7, 7, 7, 7, 63 };
+    static const uint8_t kinds[] = { 1, 1, 1, 2, 2, 2, 3, 3, 3, 3, 3, 3, 4, 4, 4, 5, 5, 5, 5, 6, 6, 6, 6, 7, 7, 7, 7, 63 };
     struct leaning l;
     struct contents c;
     uint8_t form[QVD_CONTENTS_BYTES + 8];
@@ -952,7 +1230,7 @@ static void compare_writes(unsigned long count)
             junk_unread(form);
         if (chance(1))
             n = QVD_CONTENTS_BYTES - 2 + below(8);
-        if (chance(3))
+        if (chance(4))
             room = chance(60) ? (chance(50) ? 60 : 62) : below(128);
         compare_writing(form, n, room);
         /* What was written is read again. */
@@ -1048,6 +1326,7 @@ static void compare_take(const uint8_t *frame, size_t m, bool detailed)
         same_detail(TAKE_DETAIL, library, reference, &detail);
     else
         same_verdict(TAKE, library, reference);
+    count_message(now.call, frame, m, reference);
     if (reference != 0)
         ledger_is_unchanged();
     else
@@ -1071,6 +1350,25 @@ static size_t some_issues(const struct leaning *l, uint16_t issues[SLOTS + 8])
     return chance(96) ? SLOTS : chance(50) ? (chance(50) ? SLOTS - 1 : SLOTS + 1) : below(SLOTS + 8);
 }
 
+/* What the list owes to codes. */
+static void count_codes(const uint16_t *issues, const struct row *rows, size_t count)
+{
+    for (size_t i = 0; i < count; i++) {
+        unsigned slot = rows[i].slot;
+        cases[ROW_BY_CODE] += reference_ledger.code[slot].held;
+        cases[ROW_BY_CODE_ALONE] +=
+            reference_ledger.code[slot].held && reference_ledger.orbit[slot].record.ura.kind == URA_UNKNOWN;
+    }
+    for (unsigned slot = 1; reference_ledger.has_mask && slot <= ASSIGNED_SLOTS; slot++) {
+        struct held_code *code = &reference_ledger.code[slot];
+        if (!code->held || code->code != 0 || !reference_ledger.mask.set[slot])
+            continue;
+        code->held = false;
+        cases[NO_ROW_BY_CODE] += ref_reason(&reference_ledger, issues, slot) == HAS_ROW;
+        code->held = true;
+    }
+}
+
 static void ask_rows(const uint16_t *issues, size_t k)
 {
     static struct row rows[ASSIGNED_SLOTS];
@@ -1089,6 +1387,7 @@ static void ask_rows(const uint16_t *issues, size_t k)
             row_to_bytes(&rows[i], lent.should + MARGIN + i * QVD_ROW_BYTES);
         rows_seen += count;
         lists_with_rows += count > 0;
+        count_codes(issues, rows, count);
     }
     same_verdict(ROWS, library, reference);
     lent_is_right("rows");
@@ -1256,6 +1555,75 @@ static void compare_log(unsigned long number, unsigned length)
             log_bytes -= 1 + below(FRAME_BYTES - 1), rest = 0;
         compare_replay(prn, log, log_bytes + rest, &l, chance(50));
     }
+}
+
+/* Masks of few places, or of as many as a sub-type of type 5 ends with, that differ
+ * in little. */
+static void lean_on_few(struct leaning *l)
+{
+    static const uint8_t sizes[] = { 1, 2, 3, 5, 8, 12, 69, 70, 71, 72, 139, 140, 141, 142, 209, 210, 211, 212, 255 };
+    unsigned size = chance(60) ? 1 + below(8) : PICK(sizes), slot;
+    struct mask *mask = &l->pool[0];
+
+    memset(mask->set, 0, sizeof mask->set);
+    for (unsigned places = 0; places < size;) {
+        slot = size < 12 && chance(80) ? between(1, 20) : between(1, size <= ASSIGNED_SLOTS ? ASSIGNED_SLOTS : SLOTS);
+        places += !mask->set[slot];
+        mask->set[slot] = true;
+    }
+    for (int i = 1; i < 6; i++)
+        memcpy(l->pool[i].set, mask->set, sizeof mask->set);
+    slot = between(1, 20);
+    l->pool[3].set[slot] = !l->pool[3].set[slot];
+    l->pool[4] = l->pool[0];
+    l->pool[4].set[SLOTS] = !l->pool[4].set[SLOTS];
+    lean_on_mask(l, mask);
+}
+
+/* Codes of type 5 between masks, orbits and clocks of few satellites, with the list
+ * after every frame; or types 3 and 5 that are often faulty, as messages too. */
+static void compare_codes(unsigned long count)
+{
+    static const uint8_t all[] = { 1, 2, 2, 2, 3, 4, 5, 5, 5, 5, 6, 7, 7, 7 };
+    static const uint8_t both[] = { 1, 2, 3, 3, 3, 3, 3, 3, 3, 5, 5, 5, 5, 5 };
+    struct leaning l;
+    uint8_t frame[FRAME_BYTES];
+
+    begin("codes");
+    for (unsigned long i = 0; i < count; i++) {
+        unsigned prn = PICK(ten), length = 1 + below(40);
+        size_t handed_bytes = 0;
+        bool faulty = chance(60);
+
+        now.number = i;
+        now.log = handed;
+        now.log_bytes = 0;
+        some_leaning(&l);
+        lean_on_few(&l);
+        place_ledger();
+        while (!compare_open(prn))
+            ;
+        for (unsigned k = 0; k < length; k++) {
+            unsigned kind = k == 0 && chance(90) ? 1 : faulty ? PICK(both) : PICK(all);
+            make_message(&l, kind, k == 0 ? 0 : faulty ? 60 : 10);
+            if (faulty && chance(5))
+                flip_bits(draft.bytes, CHECKED_BITS, CHECKED_BITS + 23, 1);
+            if (faulty)
+                compare_reading(READ, draft.bytes, MESSAGE_BYTES);
+            ref_encode(draft.bytes, prn, 0, frame);
+            compare_take(frame, FRAME_BYTES, chance(20));
+            handed[handed_bytes] = 0;
+            handed[handed_bytes + 1] = FRAME_BYTES;
+            memcpy(handed + handed_bytes + 2, frame, FRAME_BYTES);
+            handed_bytes += 2 + FRAME_BYTES;
+            now.log_bytes = handed_bytes;
+            if (kind == 1 && reference_ledger.has_mask && chance(90))
+                lean_on_mask(&l, &reference_ledger.mask);
+            if (!faulty || chance(10))
+                compare_list(&l);
+        }
+    }
+    now.log = NULL;
 }
 
 /* Logs of no byte, of one, of noise, and of one frame over and over. */
@@ -2211,6 +2579,43 @@ static const char *const met_name[MEETINGS] = {
     "usable and older than an unusable one", "older than one that a mask dropped",
 };
 
+/* How codes of type 5, masks and orbits can meet, in ref.h's order. */
+static const char *const code_name[CODE_EVENTS] = {
+    "kept", "in the place of another", "older than the orbit", "that make a URA unknown", "that make it known", "63",
+    "for no orbit", "of filler", "at the last place", "lost before an orbit came", "ended by an orbit",
+    "not ended by an orbit that was held off", "dropped by a mask", "not dropped by the same mask",
+};
+
+/* What each type was answered; those that were never answered so are left out. */
+static void print_types(void)
+{
+    static const char *const doing[DOINGS] = { "read", "written", "taken" };
+    static const uint8_t types[] = { 1, 2, 3, 4, 5, 6, 7, 63 };
+    for (size_t t = 0; t < sizeof types; t++) {
+        printf("type %u:", types[t]);
+        for (int d = 0; d < DOINGS; d++) {
+            printf("%s %s %lu, refused", d == 0 ? "" : ";", doing[d], of_type[types[t]][d][0]);
+            for (int v = 7; v < MOST_VERDICT - 1; v++)
+                if (of_type[types[t]][d][v] > 0)
+                    printf(" %d: %lu", v, of_type[types[t]][d][v]);
+        }
+        printf("\n");
+    }
+}
+
+static void print_biases_and_codes(void)
+{
+    printf("type 3 and the list with codes:");
+    for (int i = 0; i < CASES; i++)
+        printf(" %lu %s%s", cases[i], case_name[i], i + 1 < CASES ? "," : "\n");
+    printf("codes of type 5:");
+    for (int i = 0; i < CODE_EVENTS; i++)
+        printf(" %lu %s%s", ref_codes[i], code_name[i], i + 1 < CODE_EVENTS ? "," : "\n");
+    printf("sub-types of type 5, read, taken and refused 15:");
+    for (int sub = 0; sub < 8; sub++)
+        printf(" %d: %lu %lu %lu%s", sub, subs_read[sub], subs_taken[sub], subs_refused[sub], sub < 7 ? "," : "\n");
+}
+
 static void print_table(void)
 {
     for (int which = 0; which < 3; which++)
@@ -2239,6 +2644,8 @@ static void print_table(void)
     printf("records that met the one held:");
     for (int i = 0; i < MEETINGS; i++)
         printf(" %lu %s%s", ref_met[i], met_name[i], i + 1 < MEETINGS ? "," : "\n");
+    print_types();
+    print_biases_and_codes();
     printf("%lu pieces, %lu pairs of good frames that overlap\n", pieces_compared, overlaps_seen);
     print_sheets();
     print_tables();
@@ -2246,10 +2653,47 @@ static void print_table(void)
            count_seen(first_seen, GROUPS), count_seen(failing_seen, GROUPS), count_seen(places_seen, SLOTS));
 }
 
+/* The refusals that types 3 and 5 can be given when they are read, written and taken. */
+static const uint8_t gives_type[8][DOINGS][8] = {
+    [3] = { { 7, 9, 10, 11, 12 }, { 1, 9, 10, 11, 12, 16 }, { 7, 9, 10, 11, 12 } },
+    [5] = { { 7, 10 }, { 1, 10, 16 }, { 7, 10, 14, 15 } },
+};
+
+/* Whether something of types 3 and 5 came too seldom. */
+static bool too_few_of_types(void)
+{
+    bool few = false;
+    for (int type = 3; type <= 5; type += 2)
+        for (int d = 0; d < DOINGS; d++)
+            for (int i = 0; i < 8 && gives_type[type][d][i] != 0; i++) {
+                unsigned long came = of_type[type][d][gives_type[type][d][i]];
+                if (came < WANTED) {
+                    printf("compare: refusal %d of type %d came only %lu times (doing %d)\n", gives_type[type][d][i], type, came, d);
+                    few = true;
+                }
+            }
+    for (int i = 0; i < CASES; i++)
+        if (cases[i] < WANTED) {
+            printf("compare: only %lu %s\n", cases[i], case_name[i]);
+            few = true;
+        }
+    for (int i = 0; i < CODE_EVENTS; i++)
+        if (ref_codes[i] < WANTED) {
+            printf("compare: only %lu codes %s\n", ref_codes[i], code_name[i]);
+            few = true;
+        }
+    for (int sub = 0; sub < 8; sub++)
+        if (subs_read[sub] < 100 || (sub < 4 ? subs_taken[sub] : subs_refused[sub]) < 100) {
+            printf("compare: sub-type %d of type 5 came too seldom\n", sub);
+            few = true;
+        }
+    return few;
+}
+
 /* Whether something that the run is to show came too seldom. */
 static bool too_few(void)
 {
-    bool few = too_few_sheets() | too_few_tables();
+    bool few = too_few_sheets() | too_few_tables() | too_few_of_types();
     for (int c = 0; c < CALLS; c++)
         for (int i = 0; i < 16 && gives[c][i] != 0; i++)
             if (tally[c][gives[c][i]] < WANTED) {
@@ -2314,7 +2758,7 @@ int main(int argc, char **argv)
     compare_odd_logs();
     compare_messages(1200 * percent);
     compare_frames(400 * percent);
-    compare_writes(800 * percent);
+    compare_writes(1100 * percent);
     compare_subframes(600 * percent);
     compare_cnav1_subframes(300 * percent);
     compare_joins(100 * percent);
@@ -2325,6 +2769,7 @@ int main(int argc, char **argv)
     begin("log");
     while (calls_of(TAKE) < 1200 * percent)
         compare_log(logs++, 1 + below(chance(20) ? 10 : 300));
+    compare_codes(20 * percent);
 
     print_table();
     few = percent >= 100 && too_few();

@@ -416,6 +416,24 @@ static void take_clocks(const struct filled *f)
     }
 }
 
+/* Codes for some or all places; those of listed slots are known. */
+static void take_codes(const struct filled *f, unsigned percent)
+{
+    struct contents c = { .kind = 5, .codes = { .epoch = 100, .iod_ssr = f->mask.iod_ssr, .iodp = f->mask.iodp } };
+    unsigned n = 0;
+    for (unsigned slot = 1; slot <= SLOTS; slot++) {
+        if (f->mask.set[slot])
+            c.codes.code[n++] = (uint8_t)(f->listed[slot] ? between(1, 63) : below(64));
+        if (n == CODES || (n > 0 && slot == SLOTS)) {
+            if (chance(percent))
+                take(&c, f->prn);
+            n = 0;
+            memset(c.codes.code, 0, sizeof c.codes.code);
+            c.codes.sub++;
+        }
+    }
+}
+
 /* A ledger whose list has so many rows, or one that took no mask. */
 static void fill_by_frames(struct filled *f, size_t rows, bool has_mask)
 {
@@ -447,6 +465,8 @@ static void fill_by_frames(struct filled *f, size_t rows, bool has_mask)
     if (!has_mask)
         return;
     take_clocks(f);
+    if (chance(60))
+        take_codes(f, chance(50) ? 100 : 60);
     ref_count(&reference_ledger, f->issues, SLOTS, &count);
     same_number("rows of a ledger that was filled", (unsigned)count, (unsigned)rows);
 }
@@ -459,7 +479,13 @@ static void take_another(const struct filled *f)
 
     while (!f->mask.set[slot] && chance(98))
         slot = slot % SLOTS + 1;
-    switch (below(5)) {
+    switch (below(6)) {
+    case 5: /* codes, of which one in four makes a slot unknown */
+        c.kind = 5;
+        c.codes = (struct code_part){ .epoch = 50, .iod_ssr = f->mask.iod_ssr, .iodp = f->mask.iodp };
+        for (unsigned i = 0; i < CODES; i++)
+            c.codes.code[i] = (uint8_t)(chance(25) ? 0 : between(1, 63));
+        break;
     case 0: /* new clocks by slot */
         c.kind = 7;
         c.clocks = (struct clock_part){ .epoch = 200, .iod_ssr = f->mask.iod_ssr, .count = 1 };
@@ -527,6 +553,15 @@ static void put_held(unsigned slot, uint16_t *issue, bool liberal)
     put_bytes(orbit + O_QUARTERS, 4, o.ura.kind == URA_QUARTERS ? o.ura.quarters : any32());
 }
 
+/* A code in the place of the orbit's, for some slots; one that keeps a row out where
+ * `known` is not said. */
+static void put_code(unsigned slot, bool known)
+{
+    uint8_t *code = ledger + L_CODES + L_CODE_BYTES * (slot - 1);
+    code[K_HELD] = (uint8_t)(chance(40) ? 1 : chance(50) ? 0 : between(2, 255));
+    code[K_CODE] = (uint8_t)(code[K_HELD] != 1 ? any32() : known ? between(1, 63) : below(64));
+}
+
 /* Bytes, by docs/FORM.md, whose list has so many rows; with `liberal` so many or
  * less, and PRN, IOD SSR and IODP may be anything. */
 static void fill_by_bytes(struct filled *f, size_t rows, bool has_mask, bool liberal)
@@ -544,10 +579,13 @@ static void fill_by_bytes(struct filled *f, size_t rows, bool has_mask, bool lib
     ledger[L_IODP] = (uint8_t)(liberal && chance(20) ? between(16, 255) : below(16));
     memset(ledger + L_MASK, 0, L_CLOCKS - L_MASK);
     some_slots(slots, rows);
-    for (unsigned slot = 1; slot <= SLOTS; slot++)
+    for (unsigned slot = 1; slot <= SLOTS; slot++) {
         f->issues[slot - 1] = (uint16_t)(chance(50) ? NO_ISSUE : below(1024));
+        put_code(slot, false);
+    }
     for (size_t i = 0; i < rows; i++) {
         put_held(slots[i], &f->issues[slots[i] - 1], liberal);
+        put_code(slots[i], !liberal || chance(95));
         f->mask.set[slots[i]] = true;
         ledger[L_MASK + (slots[i] - 1) / 8] |= (uint8_t)(128 >> (slots[i] - 1) % 8);
     }

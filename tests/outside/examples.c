@@ -136,6 +136,40 @@ static void ends(void)
     }
 }
 
+/* Type 3: 34 bits, 13 for a satellite, 16 for a bias. A blank's biases are stepped
+ * over where they stand, and are not written. Millimetres of a bias. */
+static void biases(void)
+{
+    static uint8_t form[QVD_CONTENTS_BYTES];
+    struct contents c = { .kind = 3 }, again;
+    uint8_t message[MESSAGE_BYTES];
+
+    c.biases.count = 12;
+    for (unsigned i = 0; i < 12; i++)
+        c.biases.sat[i] = (struct bias_sat){ (uint16_t)(i + 1), (uint8_t)(1 + (i < 5)) };
+    c.biases.bias[16] = (struct bias){ 12, -2048 };
+    CHECK(ref_bias_end(&c.biases) == 462);
+    CHECK(ref_write(&c, message, MESSAGE_BYTES) == 0);
+    CHECK(ref_read(message, MESSAGE_BYTES, &again) == 0 && again.biases.sat[11].slot == 12);
+    CHECK(again.biases.bias[16].mode == 12 && again.biases.bias[16].value * QVD_BIAS_MM == -34816);
+    CHECK(qvd_read(message, MESSAGE_BYTES, form, sizeof form) == 0 && form[0] == 3 && form[270] == 12);
+    CHECK(form[271 + 3 * 11 + 1] == 12 && form[364 + 3 * 16] == 12 && form[365 + 3 * 16] == 0xF8);
+    CHECK(qvd_write(form, sizeof form, message, MESSAGE_BYTES) == 0);
+    c.biases.sat[11].count = 2;
+    CHECK(ref_bias_end(&c.biases) == 478 && ref_write(&c, message, MESSAGE_BYTES) == 9);
+    c.biases.sat[11].slot = 0;
+    CHECK(ref_bias_end(&c.biases) == 446 && ref_write(&c, message, MESSAGE_BYTES) == 0);
+    CHECK(ref_read(message, MESSAGE_BYTES, &again) == 0 && again.biases.sat[11].count == 0);
+    ref_put_bits(message, 446 - 4, 4, 1); /* the blank, which stands last, has a bias: it ends at 462 */
+    ref_put_bits(message, CHECKED_BITS, 24, ref_check(message));
+    CHECK(ref_read(message, MESSAGE_BYTES, &again) == 0 && again.biases.sat[11].count == 0);
+    CHECK(qvd_read(message, MESSAGE_BYTES, form, sizeof form) == 0 && form[271 + 3 * 11 + 2] == 0);
+    ref_put_bits(message, 446 - 4, 4, 2);
+    ref_put_bits(message, CHECKED_BITS, 24, ref_check(message));
+    CHECK(ref_read(message, MESSAGE_BYTES, &again) == 9);
+    CHECK(qvd_read(message, MESSAGE_BYTES, form, sizeof form) == 9);
+}
+
 static void uras(void)
 {
     CHECK(ref_ura(0).kind == URA_UNKNOWN);
@@ -627,6 +661,7 @@ int main(void)
     parity();
     check_bits();
     ends();
+    biases();
     uras();
     epochs();
     places();

@@ -91,6 +91,25 @@ void contents_to_bytes(const struct contents *c, uint8_t bytes[CONTENTS_FORM_BYT
         at = put(at, 1, r->ura.kind);
         at = put(at, 4, r->ura.quarters);
     }
+
+    at = put(at, 4, c->biases.epoch);
+    at = put(at, 1, c->biases.iod_ssr);
+    at = put(at, 1, c->biases.count);
+    for (int i = 0; i < BIAS_SATS; i++) {
+        at = put(at, 2, c->biases.sat[i].slot);
+        at = put(at, 1, c->biases.sat[i].count);
+    }
+    for (int i = 0; i < BIASES; i++) {
+        at = put(at, 1, c->biases.bias[i].mode);
+        at = put(at, 2, (uint32_t)c->biases.bias[i].value);
+    }
+
+    at = put(at, 4, c->codes.epoch);
+    at = put(at, 1, c->codes.iod_ssr);
+    at = put(at, 1, c->codes.iodp);
+    at = put(at, 1, c->codes.sub);
+    for (int i = 0; i < CODES; i++)
+        at = put(at, 1, c->codes.code[i]);
 }
 
 void contents_from_bytes(const uint8_t bytes[CONTENTS_FORM_BYTES], struct contents *c)
@@ -134,6 +153,25 @@ void contents_from_bytes(const uint8_t bytes[CONTENTS_FORM_BYTES], struct conten
         r->ura.kind = (uint8_t)get(&at, 1);
         r->ura.quarters = get(&at, 4);
     }
+
+    c->biases.epoch = get(&at, 4);
+    c->biases.iod_ssr = (uint8_t)get(&at, 1);
+    c->biases.count = (uint8_t)get(&at, 1);
+    for (int i = 0; i < BIAS_SATS; i++) {
+        c->biases.sat[i].slot = (uint16_t)get(&at, 2);
+        c->biases.sat[i].count = (uint8_t)get(&at, 1);
+    }
+    for (int i = 0; i < BIASES; i++) {
+        c->biases.bias[i].mode = (uint8_t)get(&at, 1);
+        c->biases.bias[i].value = get_signed(&at);
+    }
+
+    c->codes.epoch = get(&at, 4);
+    c->codes.iod_ssr = (uint8_t)get(&at, 1);
+    c->codes.iodp = (uint8_t)get(&at, 1);
+    c->codes.sub = (uint8_t)get(&at, 1);
+    for (int i = 0; i < CODES; i++)
+        c->codes.code[i] = (uint8_t)get(&at, 1);
 }
 
 uint32_t detail_to_number(unsigned refusal, const struct detail *detail)
@@ -190,6 +228,8 @@ void ledger_from_bytes(const uint8_t bytes[LEDGER_FORM_BYTES], struct ledger *le
         clock_from_bytes(bytes + L_CLOCKS + L_CLOCK_BYTES * (slot - 1), &ledger->clock[slot]);
         orbit_from_bytes(bytes + L_ORBITS + L_ORBIT_BYTES * (slot - 1), orbit);
         orbit->record.slot = (uint16_t)slot;
+        ledger->code[slot].held = bytes[L_CODES + L_CODE_BYTES * (slot - 1) + K_HELD] == 1;
+        ledger->code[slot].code = bytes[L_CODES + L_CODE_BYTES * (slot - 1) + K_CODE];
     }
 }
 

@@ -6,10 +6,10 @@
 #include "ref.h"
 #include "sheet.h"
 
-enum { ROW_FORM_BYTES = 27, CONTENTS_FORM_BYTES = 265, LEDGER_FORM_BYTES = 9216, SHEET_HEADER_FORM_BYTES = 5 };
+enum { ROW_FORM_BYTES = 27, CONTENTS_FORM_BYTES = 516, LEDGER_FORM_BYTES = 9726, SHEET_HEADER_FORM_BYTES = 5 };
 
-/* Where a ledger's bytes are what (docs/FORM.md): its PRN, its mask, a clock and an
- * orbit for each slot; offsets in a clock and in an orbit. */
+/* Where a ledger's bytes are what (docs/FORM.md): its PRN, its mask, a clock, an
+ * orbit and a URA code for each slot; offsets in a clock, in an orbit and in a code. */
 enum {
     L_PRN = 0,
     L_HAS_MASK = 1,
@@ -20,6 +20,8 @@ enum {
     L_CLOCK_BYTES = 12,
     L_ORBITS = 3096,
     L_ORBIT_BYTES = 24,
+    L_CODES = 9216,
+    L_CODE_BYTES = 2,
     C_HELD = 0,
     C_BY_PLACE = 1,
     C_EPOCH = 2,
@@ -35,7 +37,9 @@ enum {
     O_ALONG = 11,
     O_CROSS = 13,
     O_URA = 15,
-    O_QUARTERS = 16
+    O_QUARTERS = 16,
+    K_HELD = 0,
+    K_CODE = 1
 };
 
 void row_to_bytes(const struct row *row, uint8_t bytes[ROW_FORM_BYTES]);

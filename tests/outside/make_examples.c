@@ -23,9 +23,10 @@ enum { PRN = 60, OTHER_PRN = 59, WITHDRAWN = 0x20, UNUSABLE_15 = -16384, UNUSABL
 /* Rows as they are to be written. Slot 19, IODN 37, corr 2, along -50 * 64,
  * cross 20 * 64, URA code 19: 3^2 * (4 + 3) - 4 = 59. Slot 64, IODN 88, radial
  * -1 * 16, along 0, cross 4095 * 64, URA code 63. */
-#define ROW_19(radial, clock)                                                                                 \
+#define ROW_19_URA(radial, clock, ura)                                                                        \
     "    slot 19, BeiDou 19, IODN 37, corr 2, radial " radial ", along -3200, cross 1280, clock " clock \
-    ", URA 59\n"
+    ", URA " ura "\n"
+#define ROW_19(radial, clock) ROW_19_URA(radial, clock, "59")
 #define ROW_64(clock) \
     "    slot 64, GPS 1, IODN 88, corr 2, radial -16, along 0, cross 262080, clock " clock ", URA above\n"
 #define NO_ROWS ""
@@ -511,8 +512,8 @@ static void frames(void)
     hand_message(message, 7, NULL);
     memset(message, 0, MESSAGE_BYTES); /* the check of zeros is zero; type 0 */
     hand_message(message, 8, NULL);
-    hand_type(3, 8);
-    hand_type(5, 8);
+    hand_type(3, 9);  /* 31 satellites of 15 biases */
+    hand_type(5, 10); /* an epoch of all ones */
     hand_type(8, 8);
     hand_type(62, 8);
     hand_type(63, 0); /* a null message's data bits are ignored */
@@ -543,7 +544,8 @@ static void lowest_first(void)
     memset(message, 0, MESSAGE_BYTES);
     flip(message, CHECKED_BITS - 1); /* check, and type 0 */
     hand_message(message, 7, NULL);
-    hand_type(5, 8); /* the type, and an epoch of all ones */
+    hand_type(8, 8); /* the type, and an epoch of all ones */
+    hand_type(3, 9); /* the end, the epoch and the slot */
     c = six(1, 5, 1, 2, 0, 5);
     message_of(&c, message);
     ref_put_bits(message, NUM_C, 5, 3);          /* the end, */
@@ -961,6 +963,134 @@ static void own_epochs(void)
     end();
 }
 
+/* Type 3, SSR 1, slots 1 and on, so many biases for the first ones as are given. */
+static struct contents three(unsigned sats, unsigned biases)
+{
+    struct contents c = { .kind = 3 };
+    c.biases.epoch = 3618;
+    c.biases.iod_ssr = 1;
+    c.biases.count = (uint8_t)sats;
+    for (unsigned i = 0; i < sats; i++) {
+        c.biases.sat[i].slot = (uint16_t)(1 + i);
+        c.biases.sat[i].count = (uint8_t)(biases < 15 ? biases : 15);
+        biases -= c.biases.sat[i].count;
+    }
+    return c;
+}
+
+/* Where a type 3 has the epoch, and its first and second satellite if the first has
+ * so many biases. */
+enum { EPOCH_3_5 = 6, FIRST_SAT = 34, SAT_COUNT = 9, NEXT_SAT = 13, BIAS_BITS = 16 };
+
+/* A type 3 is 34 bits, 13 for a satellite and 16 for a bias: 12 and 17 end at 462, 28
+ * and 4 too, 2 and 25 at 460. 17 and 12 end at 447; one bias more would end at 463, and
+ * so would it if the satellite were blank, since a blank's biases are stepped over and
+ * count. 1 and 0, made a blank with 15 biases, ends at 287. No satellite is no fault.
+ * Blanks are not the same slot twice. A type 3 needs no mask and changes no list. */
+static void biases(void)
+{
+    struct contents c;
+    begin("biases");
+    hand_contents(three(12, 17), 0, NULL);
+    hand_contents(three(28, 4), 0, NULL);
+    hand_contents(three(2, 25), 0, NULL);
+    hand_contents(three(0, 0), 0, NULL);
+    c = three(17, 12);
+    hand_contents(c, 0, NULL);
+    hand_patched(c, FIRST_SAT + SAT_COUNT, 4, 13, 9);
+    c = three(17, 0);
+    c.biases.sat[16].count = 12;
+    hand_contents(c, 0, NULL);
+    hand_patched(c, FIRST_SAT + 16 * NEXT_SAT, 13, 13, 9); /* slot 0 and 13 biases */
+    hand_patched(c, FIRST_SAT + 16 * NEXT_SAT, 13, 12, 0);
+    hand_patched(three(1, 0), FIRST_SAT, 13, 15, 0);
+    hand_patched(three(2, 0), EPOCH_3_5, 17, 86400, 10);
+    hand_patched(three(0, 0), EPOCH_3_5, 17, 86400, 10);
+    hand_patched(three(2, 0), FIRST_SAT, 9, 256, 11);
+    hand_patched(three(2, 0), FIRST_SAT, 9, 255, 0);
+    hand_patched(three(2, 0), FIRST_SAT, 9, 2, 12);
+    hand_patched(three(2, 1), FIRST_SAT + NEXT_SAT + BIAS_BITS, 9, 1, 12);
+    c = three(3, 0);
+    c.biases.sat[0].slot = c.biases.sat[2].slot = 0;
+    hand_contents(c, 0, NULL);
+    end();
+}
+
+/* Type 5, SSR 1, with a code for the second place. */
+static struct contents five(unsigned iodp, unsigned sub, unsigned code)
+{
+    struct contents c = { .kind = 5 };
+    c.codes.epoch = 3600;
+    c.codes.iod_ssr = 1;
+    c.codes.iodp = (uint8_t)iodp;
+    c.codes.sub = (uint8_t)sub;
+    c.codes.code[1] = (uint8_t)code;
+    return c;
+}
+
+/* Slot 19 has the second place of the mask with slots 3, 19, 64, 101. A code that
+ * comes before its orbit is lost. Code 1 is 1 quarter, 62 is 21866, 63 above, 0
+ * unknown, so that the slot has no row. Codes go by arrival, not by epoch. The same
+ * mask again, and an orbit of the same issue that is older, leave the code; another
+ * orbit, and another mask, bring the orbit's own URA back, and the first mask again
+ * brings no code back. The clock is by slot, and stays. */
+static void codes(void)
+{
+    struct contents c;
+    begin("codes");
+    hand_contents(five(5, 0, 1), 14, NO_ROWS);
+    hand_contents(mask_of(1, 5, false), 0, NO_ROWS);
+    hand_contents(five(5, 0, 1), 0, NO_ROWS);
+    hand_contents(at(7200, orbit_alone(orbit_19(1))), 0, NO_ROWS);
+    hand_contents(at(7200, clock_by_slot(19, 1)), 0, ROW_19("16", "16"));
+    hand_contents(five(5, 0, 1), 0, ROW_19_URA("16", "16", "1"));
+    hand_contents(five(5, 0, 62), 0, ROW_19_URA("16", "16", "21866"));
+    c = five(5, 0, 63);
+    c.codes.epoch = 0;
+    hand_contents(c, 0, ROW_19_URA("16", "16", "above"));
+    hand_contents(three(2, 3), 0, ROW_19_URA("16", "16", "above"));
+    hand_contents(mask_of(1, 5, false), 0, ROW_19_URA("16", "16", "above"));
+    hand_contents(at(7199, orbit_alone(orbit_19(2))), 0, ROW_19_URA("16", "16", "above"));
+    hand_contents(five(5, 0, 0), 0, NO_ROWS);
+    hand_contents(at(7200, orbit_alone(orbit_19(3))), 0, ROW_19("48", "16"));
+    hand_contents(five(5, 0, 8), 0, ROW_19_URA("48", "16", "8"));
+    hand_contents(mask_of(1, 6, false), 0, ROW_19("48", "16"));
+    hand_contents(five(5, 0, 1), 14, ROW_19("48", "16"));
+    hand_contents(mask_of(1, 5, false), 0, ROW_19("48", "16"));
+    hand_contents(five(5, 1, 1), 15, ROW_19("48", "16"));
+    c = five(5, 0, 1);
+    c.codes.iod_ssr = 2;
+    hand_contents(c, 14, ROW_19("48", "16"));
+    c = orbit_alone(orbit_19(4));
+    c.orbits.record[0].ura = ref_ura(0);
+    hand_contents(at(7206, c), 0, NO_ROWS);
+    hand_contents(five(5, 0, 19), 0, ROW_19("64", "16"));
+    end();
+}
+
+/* 70 places are sub-type 0's alone, the 71st is sub-type 1's first; the last of 255
+ * is in sub-type 3. An epoch above 86399 comes before the place. */
+static void set_bits_70(void)
+{
+    struct contents c = mask_of_first(70);
+    begin("70-set-bits");
+    hand_contents(c, 0, NULL);
+    hand_contents(five(5, 0, 1), 0, NULL);
+    hand_contents(five(5, 1, 1), 15, NULL);
+    c.mask.set[71] = true;
+    hand_contents(c, 0, NULL);
+    hand_contents(five(5, 1, 1), 0, NULL);
+    hand_contents(five(5, 2, 1), 15, NULL);
+    hand_contents(mask_of_first(255), 0, NULL);
+    hand_contents(five(5, 3, 1), 0, NULL);
+    for (unsigned sub = 4; sub < 8; sub++)
+        hand_contents(five(5, sub, 1), 15, NULL);
+    hand_contents(mask_of_first(0), 0, NULL);
+    hand_contents(five(5, 0, 1), 15, NULL);
+    hand_patched(five(5, 0, 1), EPOCH_3_5, 17, 86400, 10);
+    end();
+}
+
 /* The field, the check, the appendix's word: worked examples of the rules. The
  * print's columns have 21 lines; symbol 0 stands in line 8 of the first and line
  * 5 of the second, symbol 42 in lines 3 and 8 of the first, symbol 161 in line 16
@@ -1059,6 +1189,9 @@ int main(int argc, char **argv)
     dropped_clock();
     unusable_newer();
     own_epochs();
+    biases();
+    codes();
+    set_bits_70();
     after_the_cases();
     return 0;
 }

@@ -10,8 +10,8 @@
  * frames are those of FRAMES, as pack -f makes them of night-frames.txt; without
  * it they are encoded here, and only -u writes these, undamaged, to FILE alone.
  * Both must be the same bytes. Frames that show -f cannot print as a line have
- * none in that text and are always encoded here, as part of the damage: type 3,
- * which is not read yet, and a wrong check under right parity.
+ * none in that text and are always encoded here, as part of the damage: a type
+ * that is not handled, and a wrong check under right parity.
  *
  * And night.sheet: the correction sheet of night.log and issues.txt, the list as it
  * is at the log's end.
@@ -43,7 +43,8 @@ enum {
     NEW_MASK_AT = 240,  /* the second mask comes into force */
     SSR = 1,
     DAY = 86400,
-    MOST = 80           /* more satellites than any mask has */
+    MOST = 80,          /* more satellites than any mask has */
+    LATER_TYPE = 8      /* of a later edition, if of any: not handled */
 };
 
 /* Which of the two logs is made: the second of the day of its first frame, the
@@ -129,7 +130,7 @@ static struct orbit_record orbit_of(unsigned slot, unsigned second)
     o.radial = wander(slot, 10, second, 150);
     o.along = wander(slot, 11, second, 120);
     o.cross = wander(slot, 12, second, 120);
-    o.ura = ref_ura(slot == 38 ? 63 : slot == 70 ? 0 : 8 + scatter(slot, 5, 14));
+    o.ura = ref_ura(slot == 38 ? 63 : slot == 70 || slot == 88 ? 0 : 8 + scatter(slot, 5, 14));
     if (slot == 77)
         o.along = -4096; /* unusable */
     return o;
@@ -230,6 +231,63 @@ static void type_7(struct contents *c, unsigned second, unsigned num_c, unsigned
         six_orbits(c, second, num_o);
 }
 
+/* The signals of a satellite that biases are sent for, by 000's table of modes: three
+ * of BeiDou, two of GPS and Galileo, one of GLONASS. Some satellites have none. */
+static unsigned modes_of(unsigned slot, const uint8_t **modes)
+{
+    static const uint8_t beidou[] = { 0, 2, 5 }, gps[] = { 1, 8 }, galileo[] = { 2, 4 }, glonass[] = { 1 };
+    *modes = slot <= 63 ? beidou : slot <= 100 ? gps : slot <= 137 ? galileo : glonass;
+    if (slot == 36 || slot == 70)
+        return 0;
+    return slot <= 63 ? sizeof beidou : slot <= 100 ? sizeof gps : slot <= 137 ? sizeof galileo : sizeof glonass;
+}
+
+static unsigned next_bias; /* the satellite whose biases are sent next */
+
+static void type_3(struct contents *c, unsigned second)
+{
+    uint8_t slots[MOST];
+    unsigned n = slots_at(second, slots);
+    struct bias *bias = c->biases.bias;
+    c->kind = 3;
+    c->biases.epoch = epoch_of(second / 48 * 48);
+    c->biases.iod_ssr = SSR;
+    c->biases.count = 7;
+    for (unsigned i = 0; i < c->biases.count; i++, next_bias++) {
+        const uint8_t *modes;
+        if (next_bias >= n) {
+            /* the round is complete: the rest of the satellites stay blank */
+            next_bias = 0;
+            return;
+        }
+        c->biases.sat[i].slot = slots[next_bias];
+        c->biases.sat[i].count = (uint8_t)modes_of(slots[next_bias], &modes);
+        for (unsigned k = 0; k < c->biases.sat[i].count; k++, bias++) {
+            bias->mode = modes[k];
+            bias->value = wander(slots[next_bias], 20 + modes[k], second, 300);
+        }
+    }
+}
+
+/* The codes of all satellites. Two have orbits of unknown URA and codes that are
+ * known, another the other way round; places without a satellite have code 0. */
+static void type_5(struct contents *c, unsigned second, unsigned sub)
+{
+    uint8_t slots[MOST];
+    unsigned n = slots_at(second, slots);
+    struct mask mask;
+    mask_at(second, &mask);
+    c->kind = 5;
+    c->codes.epoch = epoch_of(second / 6 * 6);
+    c->codes.iod_ssr = SSR;
+    c->codes.iodp = mask.iodp;
+    c->codes.sub = (uint8_t)sub;
+    for (unsigned i = 0; i < CODES && 70 * sub + i < n; i++) {
+        unsigned slot = slots[70 * sub + i];
+        c->codes.code[i] = (uint8_t)(slot == 44 ? 0 : slot == 38 ? 63 : 6 + scatter(slot, 9 + second / 96, 16));
+    }
+}
+
 static void write_or_stop(const struct contents *c, uint8_t message[MESSAGE_BYTES])
 {
     unsigned refusal = ref_write(c, message, MESSAGE_BYTES);
@@ -239,21 +297,37 @@ static void write_or_stop(const struct contents *c, uint8_t message[MESSAGE_BYTE
     }
 }
 
-/* Turns a message into a code bias message, type 3, of which only the type and the
- * epoch are made here. */
-static void make_type_3(uint8_t message[MESSAGE_BYTES], unsigned second)
+/* Turns a message into one of a type that is not handled, of which only the type and
+ * an epoch are made here. */
+static void make_later_type(uint8_t message[MESSAGE_BYTES], unsigned second)
 {
     memset(message, 0, MESSAGE_BYTES);
-    ref_put_bits(message, 0, 6, 3);
+    ref_put_bits(message, 0, 6, LATER_TYPE);
     ref_put_bits(message, 6, 17, epoch_of(second));
     ref_put_bits(message, CHECKED_BITS, 24, ref_check(message));
+}
+
+/* Twice in 48 seconds, at 41 and 47, there is room for biases, for codes, for a type
+ * that is not handled or for nothing. Codes speak of the second mask before it is sent
+ * and are refused, and once there is no place for them. The last ones come so late
+ * that few orbits follow them. */
+static unsigned spare_type(struct contents *c, unsigned second, unsigned told)
+{
+    static const uint8_t types[20] = { LATER_TYPE, 63, 3, 5, 3, 63, 3, 5, 3, 5, 3, 5, 3, 63, 3, 5, LATER_TYPE, 5, 5, 3 };
+    unsigned type = types[second / 48 * 2 + (second % 48 == 47)];
+    c->kind = 63;
+    if (type == 3)
+        type_3(c, second);
+    if (type == 5)
+        type_5(c, told, second == 383);
+    return type;
 }
 
 /* What the satellite sends in a second. */
 static void sent(unsigned second, uint8_t message[MESSAGE_BYTES])
 {
     struct contents c = { 0 };
-    unsigned told = second;
+    unsigned told = second, type = 0;
 
     /* The clocks speak of the second mask shortly before it is sent, and once
      * more of the first one after. */
@@ -275,20 +349,20 @@ static void sent(unsigned second, uint8_t message[MESSAGE_BYTES])
         case 3: type_7(&c, told, 15, 0); break;
         case 4: type_6(&c, told, second == 413 ? 58 : 52, 4, 4); break;
         case 5: type_7(&c, told, 0, 6); break;
-        default: c.kind = 63; break;
+        default: type = spare_type(&c, second, told); break;
         }
     } else {
         c.kind = 2;
         six_orbits(&c, second, ORBITS);
     }
     write_or_stop(&c, message);
-    if (second % 48 == 41)
-        make_type_3(message, second);
+    if (type == LATER_TYPE)
+        make_later_type(message, second);
 }
 
 static void flip(uint8_t *bytes, unsigned bit) { bytes[bit / 8] ^= (uint8_t)(0x80 >> bit % 8); }
 
-static bool is_type_3(const uint8_t message[MESSAGE_BYTES]) { return ref_get_bits(message, 0, 6) == 3; }
+static bool is_later_type(const uint8_t message[MESSAGE_BYTES]) { return ref_get_bits(message, 0, 6) == LATER_TYPE; }
 
 /* The frame of it, by the encoder here. Some seconds are another satellite's. */
 static void encoded(unsigned second, const uint8_t message[MESSAGE_BYTES], uint8_t frame[FRAME_BYTES])
@@ -350,10 +424,10 @@ static void make_log(const char *folder, FILE *packed)
 {
     FILE *out = create(folder, "night.log");
     uint8_t message[MESSAGE_BYTES], frame[FRAME_BYTES];
-    next_orbit = 0;
+    next_orbit = next_bias = 0;
     for (unsigned second = 0; second <= SECONDS; second++) {
         sent(second, message);
-        if (packed == NULL || is_type_3(message))
+        if (packed == NULL || is_later_type(message))
             encoded(second, message, frame);
         else if (fread(frame, 1, FRAME_BYTES, packed) != FRAME_BYTES)
             stop("too few frames");
@@ -372,11 +446,11 @@ static void make_undamaged(const char *path)
     uint8_t message[MESSAGE_BYTES], frame[FRAME_BYTES];
     if (out == NULL)
         stop("the file of frames cannot be written");
-    next_orbit = 0;
+    next_orbit = next_bias = 0;
     for (unsigned second = 0; second <= SECONDS; second++) {
         sent(second, message);
         encoded(second, message, frame);
-        if (!is_type_3(message))
+        if (!is_later_type(message))
             fwrite(frame, 1, FRAME_BYTES, out);
     }
     finish(out);
@@ -412,7 +486,13 @@ static void sent_in_hours(unsigned frame, uint8_t message[MESSAGE_BYTES])
     case 9:
     case 10:
     case 11: type_4(&c, second, turn - 9); break;
-    case 13: c.kind = 63; break;
+    case 13:
+        c.kind = 63;
+        if (frame / 16 % 3 == 0)
+            type_3(&c, second);
+        if (frame / 16 % 3 == 2)
+            type_5(&c, second, 0);
+        break;
     case 15: type_7(&c, second, 8, 2); break;
     default:
         c.kind = 2;
@@ -425,8 +505,8 @@ static void sent_in_hours(unsigned frame, uint8_t message[MESSAGE_BYTES])
     if (frame == LAST_CLOCKS / 16 * 16 - 1)
         c.orbits.iod_ssr = SSR + 1; /* the service is about to begin anew */
     write_or_stop(&c, message);
-    if (turn == 13 && frame / 16 % 2 == 0)
-        make_type_3(message, second);
+    if (frame == 13 || frame == 13 + 32)
+        make_later_type(message, second);
 }
 
 /* What the receiver stored of it. */
@@ -454,7 +534,7 @@ static void make_hours(const char *folder)
     uint8_t message[MESSAGE_BYTES], frame[FRAME_BYTES];
 
     night = &hours;
-    next_orbit = 0;
+    next_orbit = next_bias = 0;
     for (unsigned number = 0; number <= FRAMES; number++) {
         unsigned from = 0, to = FRAME_BYTES;
         sent_in_hours(number, message);
@@ -490,6 +570,41 @@ static void put_message(FILE *out, const struct contents *c)
     fwrite(message, 1, MESSAGE_BYTES, out);
 }
 
+/* Type 3: no satellite; a blank alone; 31 of them, of which some are blank and few
+ * have biases; blanks between satellites and the ends of each range; one that ends at
+ * bit 462; the most biases that there can be. */
+static void put_biases(FILE *out)
+{
+    struct contents c = { .kind = 3 };
+    put_message(out, &c);
+    c.biases.count = 1;
+    put_message(out, &c);
+    c.biases = (struct bias_part){ .epoch = 86399, .iod_ssr = 3, .count = BIAS_SATS };
+    for (unsigned i = 0; i < BIAS_SATS; i++)
+        c.biases.sat[i].slot = (uint16_t)(i % 5 == 3 ? 0 : 255 - i);
+    c.biases.sat[30].count = 1;
+    c.biases.bias[0] = (struct bias){ 15, -1 };
+    put_message(out, &c);
+    c.biases = (struct bias_part){ .count = 5 };
+    c.biases.sat[1] = (struct bias_sat){ 255, 3 };
+    c.biases.sat[2] = (struct bias_sat){ 1, 0 };
+    c.biases.sat[4] = (struct bias_sat){ 174, 1 };
+    c.biases.bias[0] = (struct bias){ 0, -2048 };
+    c.biases.bias[1] = (struct bias){ 15, 2047 };
+    c.biases.bias[2] = (struct bias){ 15, 0 };
+    c.biases.bias[3] = (struct bias){ 7, -2047 };
+    put_message(out, &c);
+    for (int which = 0; which < 2; which++) {
+        unsigned sats = which == 0 ? 12 : 2;
+        c.biases = (struct bias_part){ .count = (uint8_t)sats };
+        for (unsigned i = 0; i < sats; i++)
+            c.biases.sat[i] = (struct bias_sat){ (uint16_t)(19 + i), (uint8_t)(which == 0 ? 1 + (i < 5) : 15 - 5 * i) };
+        for (unsigned i = 0; i < BIASES; i++)
+            c.biases.bias[i] = (struct bias){ (uint8_t)(i % 16), (int16_t)(100 * (int)i - 1200) };
+        put_message(out, &c);
+    }
+}
+
 static void make_messages(const char *folder)
 {
     FILE *out = create(folder, "night.messages");
@@ -498,7 +613,7 @@ static void make_messages(const char *folder)
 
     /* The messages of the first 48 seconds and of as many after the second
      * mask, save those that cannot be read. */
-    next_orbit = 0;
+    next_orbit = next_bias = 0;
     for (unsigned second = 0; second < NEW_MASK_AT + 48; second++) {
         sent(second, message);
         if ((second < 48 || second >= NEW_MASK_AT) && ref_read(message, MESSAGE_BYTES, &c) == 0)
@@ -529,6 +644,17 @@ static void make_messages(const char *folder)
     c.clocks.first = 31;
     c.clocks.record[0].c0 = -16384;
     c.clocks.record[22] = (struct clock_record){ 0, 7, 16383 };
+    put_message(out, &c);
+    put_biases(out);
+    memset(&c, 0, sizeof c);
+    c.kind = 5;
+    put_message(out, &c);
+    c.codes.epoch = 86399;
+    c.codes.iod_ssr = 3;
+    c.codes.iodp = 15;
+    c.codes.sub = 7;
+    for (unsigned i = 0; i < CODES; i++)
+        c.codes.code[i] = (uint8_t)(63 - i % 64);
     put_message(out, &c);
     for (uint8_t kind = 6; kind <= 7; kind++) {
         memset(&c, 0, sizeof c);

@@ -226,7 +226,7 @@ int ref_ura_code(struct ura ura)
 
 static bool kind_known(unsigned kind)
 {
-    return kind == 1 || kind == 2 || kind == 4 || kind == 6 || kind == 7 || kind == 63;
+    return (kind >= 1 && kind <= 7) || kind == 63;
 }
 
 unsigned ref_end(unsigned kind, unsigned num_c, unsigned num_o)
@@ -239,7 +239,28 @@ unsigned ref_end(unsigned kind, unsigned num_c, unsigned num_o)
     return end;
 }
 
+/* A blank has no biases, whatever number of them it is said to have. */
+static unsigned biases_of(const struct bias_sat *sat) { return sat->slot == 0 ? 0 : sat->count; }
+
+unsigned ref_bias_end(const struct bias_part *part)
+{
+    unsigned end = 34 + 13u * part->count;
+    for (unsigned i = 0; i < part->count && i < BIAS_SATS; i++)
+        end += 16 * biases_of(&part->sat[i]);
+    return end;
+}
+
 static bool has_mask_part(const struct contents *c) { return c->kind == 1; }
+static bool has_bias_part(const struct contents *c) { return c->kind == 3; }
+static bool has_code_part(const struct contents *c) { return c->kind == 5; }
+
+/* The satellites of a type 3: no more than there is room for. */
+static unsigned sat_count(const struct contents *c)
+{
+    if (!has_bias_part(c))
+        return 0;
+    return c->biases.count < BIAS_SATS ? c->biases.count : BIAS_SATS;
+}
 
 static unsigned clock_count(const struct contents *c)
 {
@@ -259,7 +280,8 @@ static bool epoch_wrong(const struct contents *c)
 {
     return (has_mask_part(c) && c->mask.epoch > LAST_EPOCH) ||
            (clock_count(c) > 0 && c->clocks.epoch > LAST_EPOCH) ||
-           (orbit_count(c) > 0 && c->orbits.epoch > LAST_EPOCH);
+           (orbit_count(c) > 0 && c->orbits.epoch > LAST_EPOCH) ||
+           (has_bias_part(c) && c->biases.epoch > LAST_EPOCH) || (has_code_part(c) && c->codes.epoch > LAST_EPOCH);
 }
 
 static bool slot_wrong(const struct contents *c)
@@ -272,6 +294,9 @@ static bool slot_wrong(const struct contents *c)
                 return true;
     for (unsigned i = 0; i < orbit_count(c); i++)
         if (c->orbits.record[i].slot > SLOTS)
+            return true;
+    for (unsigned i = 0; i < sat_count(c); i++)
+        if (c->biases.sat[i].slot > SLOTS)
             return true;
     return false;
 }
@@ -286,6 +311,10 @@ static bool slot_twice(const struct contents *c)
     for (unsigned i = 0; i < orbit_count(c); i++)
         for (unsigned j = 0; j < i; j++)
             if (c->orbits.record[i].slot != 0 && c->orbits.record[i].slot == c->orbits.record[j].slot)
+                return true;
+    for (unsigned i = 0; i < sat_count(c); i++)
+        for (unsigned j = 0; j < i; j++)
+            if (c->biases.sat[i].slot != 0 && c->biases.sat[i].slot == c->biases.sat[j].slot)
                 return true;
     return false;
 }
@@ -362,6 +391,47 @@ static void read_mask(struct reader *r, struct mask *mask)
         mask->set[slot] = r->bytes[r->at / 8] >> (7 - r->at % 8) & 1;
 }
 
+/* Whether it ends by bit 462, blanks and the biases that they step over included. */
+static bool read_biases(struct reader *r, struct bias_part *part)
+{
+    struct bias *bias = part->bias;
+
+    part->epoch = next(r, 17);
+    next(r, 4);
+    part->iod_ssr = (uint8_t)next(r, 2);
+    part->count = (uint8_t)next(r, 5);
+    for (unsigned i = 0; i < part->count; i++) {
+        struct bias_sat sat;
+        if (r->at + 13 > CHECKED_BITS)
+            return false;
+        sat.slot = (uint16_t)next(r, 9);
+        sat.count = (uint8_t)next(r, 4);
+        if (r->at + 16u * sat.count > CHECKED_BITS)
+            return false;
+        if (sat.slot == 0) {
+            r->at += 16u * sat.count;
+            continue;
+        }
+        part->sat[i] = sat;
+        for (unsigned k = 0; k < sat.count; k++, bias++) {
+            bias->mode = (uint8_t)next(r, 4);
+            bias->value = next_signed(r, 12);
+        }
+    }
+    return true;
+}
+
+static void read_codes(struct reader *r, struct code_part *part)
+{
+    part->epoch = next(r, 17);
+    next(r, 4);
+    part->iod_ssr = (uint8_t)next(r, 2);
+    part->iodp = (uint8_t)next(r, 4);
+    part->sub = (uint8_t)next(r, 3);
+    for (unsigned i = 0; i < CODES; i++)
+        part->code[i] = (uint8_t)next(r, 6);
+}
+
 /* Refusals 7 to 12, and what the message says where there are none. `out` is
  * all zero when this begins, and nothing that counts after a refusal. */
 static unsigned read_fields(const uint8_t message[MESSAGE_BYTES], struct contents *out)
@@ -381,8 +451,15 @@ static unsigned read_fields(const uint8_t message[MESSAGE_BYTES], struct content
     case 2:
         read_orbits(&r, ORBITS, &out->orbits);
         break;
+    case 3:
+        if (!read_biases(&r, &out->biases))
+            return 9;
+        break;
     case 4:
         read_clocks(&r, 4, CLOCKS, &out->clocks);
+        break;
+    case 5:
+        read_codes(&r, &out->codes);
         break;
     case 6:
     case 7:
@@ -491,6 +568,32 @@ static bool clock_fits(const struct clock_record *c, unsigned kind)
     return (kind == 7 && c->slot == 0) || (c->iod_corr <= 7 && fits_signed(c->c0, 15));
 }
 
+/* Of a type 3 that ends by bit 462: it then has no more biases than there is room for. */
+static bool biases_fit(const struct bias_part *part)
+{
+    const struct bias *bias = part->bias;
+
+    if (part->iod_ssr > 3 || part->count > BIAS_SATS)
+        return false;
+    for (unsigned i = 0; i < part->count; i++) {
+        unsigned count = biases_of(&part->sat[i]);
+        if (count > 15)
+            return false;
+        for (unsigned k = 0; k < count; k++, bias++)
+            if (bias->mode > 15 || !fits_signed(bias->value, 12))
+                return false;
+    }
+    return true;
+}
+
+static bool codes_fit(const struct code_part *part)
+{
+    for (unsigned i = 0; i < CODES; i++)
+        if (part->code[i] > 63)
+            return false;
+    return part->iod_ssr <= 3 && part->iodp <= 15 && part->sub <= 7;
+}
+
 /* Whether each field that refusals 8 to 12 do not speak of can be written. */
 static bool fields_fit(const struct contents *c)
 {
@@ -510,6 +613,10 @@ static bool fields_fit(const struct contents *c)
     for (unsigned i = 0; i < orbit_count(c); i++)
         if (!orbit_fits(&c->orbits.record[i]))
             return false;
+    if (has_bias_part(c) && !biases_fit(&c->biases))
+        return false;
+    if (has_code_part(c) && !codes_fit(&c->codes))
+        return false;
     return true;
 }
 
@@ -567,6 +674,36 @@ static void write_mask(struct writer *w, const struct mask *mask)
         put(w, 1, mask->set[slot]);
 }
 
+static void write_biases(struct writer *w, const struct bias_part *part)
+{
+    const struct bias *bias = part->bias;
+
+    put(w, 17, part->epoch);
+    put(w, 4, 0);
+    put(w, 2, part->iod_ssr);
+    put(w, 5, part->count);
+    for (unsigned i = 0; i < part->count; i++) {
+        const struct bias_sat *sat = &part->sat[i];
+        put(w, 9, sat->slot);
+        put(w, 4, biases_of(sat));
+        for (unsigned k = 0; k < biases_of(sat); k++, bias++) {
+            put(w, 4, bias->mode);
+            put_signed(w, 12, bias->value);
+        }
+    }
+}
+
+static void write_codes(struct writer *w, const struct code_part *part)
+{
+    put(w, 17, part->epoch);
+    put(w, 4, 0);
+    put(w, 2, part->iod_ssr);
+    put(w, 4, part->iodp);
+    put(w, 3, part->sub);
+    for (unsigned i = 0; i < CODES; i++)
+        put(w, 6, part->code[i]);
+}
+
 unsigned ref_write(const struct contents *in, uint8_t *room, size_t length)
 {
     struct writer w = { room, 0 };
@@ -578,6 +715,8 @@ unsigned ref_write(const struct contents *in, uint8_t *room, size_t length)
         return 8;
     if ((in->kind == 6 || in->kind == 7) &&
         ref_end(in->kind, clock_count(in), orbit_count(in)) > CHECKED_BITS)
+        return 9;
+    if (has_bias_part(in) && ref_bias_end(&in->biases) > CHECKED_BITS)
         return 9;
     refusal = judge(in);
     if (refusal != 0)
@@ -597,6 +736,10 @@ unsigned ref_write(const struct contents *in, uint8_t *room, size_t length)
         write_clocks(&w, in->kind, clock_count(in), &in->clocks);
     if (orbit_count(in) > 0)
         write_orbits(&w, orbit_count(in), &in->orbits);
+    if (has_bias_part(in))
+        write_biases(&w, &in->biases);
+    if (has_code_part(in))
+        write_codes(&w, &in->codes);
     ref_put_bits(room, CHECKED_BITS, 24, ref_check(room));
     return 0;
 }
@@ -622,13 +765,20 @@ static bool masks_differ(const struct mask *a, const struct mask *b)
     return false;
 }
 
+unsigned long ref_codes[CODE_EVENTS];
+
 static void take_mask(struct ledger *ledger, const struct mask *mask)
 {
-    /* Clocks in force that came by place were placed by the mask in force. */
-    if (!ledger->has_mask || masks_differ(&ledger->mask, mask))
-        for (int slot = 1; slot <= SLOTS; slot++)
+    /* Clocks in force that came by place were placed by the mask in force, and so were all codes. */
+    bool other = !ledger->has_mask || masks_differ(&ledger->mask, mask);
+    for (int slot = 1; slot <= SLOTS; slot++)
+        ref_codes[other ? CODE_DROPPED : CODE_STAYS_BY_MASK] += ledger->code[slot].held;
+    if (other)
+        for (int slot = 1; slot <= SLOTS; slot++) {
             if (ledger->clock[slot].by_place)
                 ledger->clock[slot].held = ledger->clock[slot].by_place = false;
+            ledger->code[slot].held = ledger->code[slot].missed = false;
+        }
     ledger->has_mask = true;
     ledger->mask = *mask;
     ledger->places = 0;
@@ -689,9 +839,15 @@ static void take_orbits(struct ledger *ledger, const struct orbit_part *part)
         const struct orbit_record *record = &part->record[i];
         if (record->slot != 0) {
             struct held_orbit *held = &ledger->orbit[record->slot];
+            struct held_code *code = &ledger->code[record->slot];
             if (!replaces(held->held, held->iod_ssr, held->record.iod_corr, held->epoch, part->iod_ssr, record->iod_corr,
-                          part->epoch))
+                          part->epoch)) {
+                ref_codes[CODE_OUTLIVES_ORBIT] += code->held;
                 continue;
+            }
+            ref_codes[CODE_ENDED] += code->held;
+            ref_codes[ORBIT_AFTER_MISSED] += code->missed;
+            code->held = code->missed = false;
             held->held = true;
             held->epoch = part->epoch & EPOCH_BITS;
             held->iod_ssr = part->iod_ssr;
@@ -700,12 +856,46 @@ static void take_orbits(struct ledger *ledger, const struct orbit_part *part)
     }
 }
 
+/* The codes of a type 5, by place. One for a slot without an orbit in force is lost. */
+static void take_codes(struct ledger *ledger, const struct code_part *part)
+{
+    for (unsigned j = 1; j <= CODES; j++) {
+        unsigned place = 70u * part->sub + j, slot, code = part->code[j - 1];
+        const struct held_orbit *orbit;
+        if (ledger->places < place) {
+            ref_codes[CODE_FILLER]++;
+            continue;
+        }
+        slot = ledger->slot_at[place];
+        orbit = &ledger->orbit[slot];
+        ref_codes[CODE_LAST_PLACE] += place == ledger->places;
+        if (!orbit->held) {
+            ref_codes[CODE_WITHOUT_ORBIT]++;
+            ledger->code[slot].missed = true;
+            continue;
+        }
+        ref_codes[ledger->code[slot].held ? CODE_AGAIN : CODE_KEPT]++;
+        ref_codes[CODE_OLDER] += ref_after(part->epoch, orbit->epoch) >= (LAST_EPOCH + 1) / 2;
+        ref_codes[CODE_TO_UNKNOWN] += code == 0 && orbit->record.ura.kind != URA_UNKNOWN;
+        ref_codes[CODE_FROM_UNKNOWN] += code != 0 && orbit->record.ura.kind == URA_UNKNOWN;
+        ref_codes[CODE_63] += code == 63;
+        ledger->code[slot].held = true;
+        ledger->code[slot].code = (uint8_t)code;
+    }
+}
+
 /* Refusals 14, 15 and 19. */
 static unsigned judge_places(const struct ledger *ledger, const struct contents *c)
 {
     const struct clock_part *part = &c->clocks;
+    const struct code_part *codes = &c->codes;
     unsigned place;
 
+    if (has_code_part(c) &&
+        (!ledger->has_mask || codes->iod_ssr != ledger->mask.iod_ssr || codes->iodp != ledger->mask.iodp))
+        return 14;
+    if (has_code_part(c))
+        return 70u * codes->sub + 1 > ledger->places ? 15 : 0;
     if (c->kind != 4 && !(c->kind == 6 && part->count > 0))
         return 0;
     if (!ledger->has_mask || part->iod_ssr != ledger->mask.iod_ssr || part->iodp != ledger->mask.iodp)
@@ -731,6 +921,8 @@ unsigned ref_take_detail(struct ledger *ledger, const uint8_t *frame, size_t len
         return refusal;
     if (c.kind == 1)
         take_mask(ledger, &c.mask);
+    if (has_code_part(&c))
+        take_codes(ledger, &c.codes);
     for (unsigned i = 0; i < c.clocks.count; i++) {
         const struct clock_record *record = &c.clocks.record[i];
         if (c.kind == 7) {
@@ -782,12 +974,23 @@ bool ref_epoch(const struct contents *c, uint32_t *epoch)
         *epoch = c->clocks.epoch;
     else if (orbit_count(c) > 0)
         *epoch = c->orbits.epoch;
+    else if (has_bias_part(c))
+        *epoch = c->biases.epoch;
+    else if (has_code_part(c))
+        *epoch = c->codes.epoch;
     else
         return false;
     return true;
 }
 
 uint32_t ref_after(uint32_t later, uint32_t epoch) { return (later + LAST_EPOCH + 1 - epoch) % (LAST_EPOCH + 1); }
+
+/* The URA of the orbit in force for a slot, with the code that replaces its own. */
+static struct ura ura_in_force(const struct ledger *ledger, unsigned slot)
+{
+    const struct held_code *code = &ledger->code[slot];
+    return code->held ? ref_ura(code->code) : ledger->orbit[slot].record.ura;
+}
 
 unsigned ref_reason(const struct ledger *ledger, const uint16_t *issues, unsigned slot)
 {
@@ -804,7 +1007,7 @@ unsigned ref_reason(const struct ledger *ledger, const uint16_t *issues, unsigne
         return OTHER_SSR;
     if (o->iod_corr != clock->iod_corr)
         return OTHER_CORR;
-    if (o->ura.kind == URA_UNKNOWN)
+    if (ura_in_force(ledger, slot).kind == URA_UNKNOWN)
         return NO_URA;
     if (o->radial == -16384 || o->along == -4096 || o->cross == -4096 || clock->c0 == -16384)
         return UNUSABLE;
@@ -836,7 +1039,7 @@ static bool qualifies(const struct ledger *ledger, const uint16_t *issues, unsig
 
     return slot <= ASSIGNED_SLOTS && ledger->has_mask && ledger->mask.set[slot] && orbit->held && clock->held &&
            orbit->iod_ssr == ledger->mask.iod_ssr && clock->iod_ssr == ledger->mask.iod_ssr &&
-           orbit->record.iod_corr == clock->iod_corr && orbit->record.ura.kind != URA_UNKNOWN &&
+           orbit->record.iod_corr == clock->iod_corr && ura_in_force(ledger, slot).kind != URA_UNKNOWN &&
            orbit->record.radial != -16384 && orbit->record.along != -4096 && orbit->record.cross != -4096 &&
            clock->c0 != -16384 && issues[slot - 1] == orbit->record.iodn;
 }
@@ -855,7 +1058,7 @@ static void fill_row(const struct ledger *ledger, unsigned slot, struct row *row
     row->along = orbit->along * 64;
     row->cross = orbit->cross * 64;
     row->clock = ledger->clock[slot].c0 * 16;
-    row->ura = orbit->ura;
+    row->ura = ura_in_force(ledger, slot);
 }
 
 unsigned ref_count(const struct ledger *ledger, const uint16_t *issues, size_t n, size_t *count)

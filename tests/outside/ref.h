@@ -22,6 +22,9 @@ enum {
     ASSIGNED_SLOTS = 174,
     ORBITS = 6,           /* most orbit records that a message holds */
     CLOCKS = 23,          /* most clock records that a message holds */
+    BIAS_SATS = 31,       /* most satellites that a type 3 can name */
+    BIASES = 25,          /* most biases that it has room for */
+    CODES = 70,           /* URA codes of a type 5 */
     LAST_ISSUE = 1023,
     NO_ISSUE = 65535
 };
@@ -73,13 +76,43 @@ struct orbit_part {
     struct orbit_record record[ORBITS];
 };
 
+/* The biases of all satellites stand one behind the other, each satellite's own
+ * number of them; a blank has none. */
+struct bias_sat {
+    uint16_t slot;
+    uint8_t count; /* of its biases */
+};
+
+struct bias {
+    uint8_t mode; /* signal and tracking mode */
+    int16_t value;
+};
+
+struct bias_part {
+    uint32_t epoch;
+    uint8_t iod_ssr;
+    uint8_t count; /* of the satellites */
+    struct bias_sat sat[BIAS_SATS];
+    struct bias bias[BIASES];
+};
+
+struct code_part {
+    uint32_t epoch;
+    uint8_t iod_ssr;
+    uint8_t iodp;
+    uint8_t sub;
+    uint8_t code[CODES]; /* as ref_ura takes it */
+};
+
 /* What a message says. Values are raw; a part that the type does not have, or
  * that is absent, is all zero. */
 struct contents {
-    uint8_t kind; /* 1, 2, 4, 6, 7 or 63 */
+    uint8_t kind; /* 1 to 7 or 63 */
     struct mask mask;
     struct clock_part clocks;
     struct orbit_part orbits;
+    struct bias_part biases;
+    struct code_part codes;
 };
 
 /* What is in force of a slot, with the epoch of the part that it came in; packed
@@ -100,6 +133,13 @@ struct held_clock {
     int16_t c0;
 };
 
+/* A URA code that a type 5 put in the place of the orbit's in force. */
+struct held_code {
+    bool held : 1;
+    bool missed : 1; /* a code came while there was no orbit: for counting alone */
+    uint8_t code;
+};
+
 struct ledger {
     uint8_t prn;
     bool has_mask;
@@ -108,6 +148,7 @@ struct ledger {
     uint8_t slot_at[SLOTS + 1]; /* slot_at[n] has place n, 1 to places */
     struct held_orbit orbit[SLOTS + 1];
     struct held_clock clock[SLOTS + 1];
+    struct held_code code[SLOTS + 1];
 };
 
 /* What a refusal gives beside its number: of 6 the first two, of 19 the third.
@@ -154,8 +195,10 @@ void ref_symbols(const uint8_t frame[FRAME_BYTES], uint8_t symbol[SYMBOLS]);
 /* The 24-bit check over the first 462 bits. */
 uint32_t ref_check(const uint8_t message[MESSAGE_BYTES]);
 
-/* The bit after the last of a type 6 or 7 with these counts. */
+/* The bit after the last of a type 6 or 7 with these counts, and of a type 3 as it
+ * is written, where a blank has no biases. */
 unsigned ref_end(unsigned kind, unsigned num_c, unsigned num_o);
+unsigned ref_bias_end(const struct bias_part *part);
 
 /* URA of a code 0 to 63, and the code of a URA or -1 if no code gives it. */
 struct ura ref_ura(unsigned code);
@@ -193,6 +236,27 @@ enum {
     MEETINGS
 };
 extern unsigned long ref_met[MEETINGS];
+
+/* How often URA codes of a type 5, masks and orbits met in these ways, over all
+ * ledgers. */
+enum {
+    CODE_KEPT,
+    CODE_AGAIN,          /* one was held already */
+    CODE_OLDER,          /* by its epoch, than the orbit that it changes; it counts */
+    CODE_TO_UNKNOWN,     /* code 0 for an orbit whose URA is known */
+    CODE_FROM_UNKNOWN,   /* another for an orbit whose URA is not */
+    CODE_63,
+    CODE_WITHOUT_ORBIT,  /* names a slot that has no orbit in force */
+    CODE_FILLER,         /* behind the last set bit */
+    CODE_LAST_PLACE,     /* at the last set bit */
+    ORBIT_AFTER_MISSED,  /* an orbit for a slot that a code named when it had none */
+    CODE_ENDED,          /* by another orbit that comes into force */
+    CODE_OUTLIVES_ORBIT, /* an orbit that is held off does not end it */
+    CODE_DROPPED,        /* by another mask */
+    CODE_STAYS_BY_MASK,  /* the same mask does not drop it */
+    CODE_EVENTS
+};
+extern unsigned long ref_codes[CODE_EVENTS];
 
 /* The ledger: 4 on opening; 1, 3 to 15, 19 on taking a frame. A ledger whose PRN
  * is none of the ten takes no frame. */

@@ -48,6 +48,32 @@ static void print_clocks(const struct clock_part *part, bool by_slot)
     }
 }
 
+/* A satellite that has biases is its slot and pairs of mode and bias; one that has
+ * none is its slot alone. */
+static void print_biases(const struct bias_part *part)
+{
+    const struct bias *bias = part->bias;
+    printf(" biases");
+    for (int i = 0; i < part->count; i++) {
+        if (part->sat[i].slot == 0) {
+            printf(" -");
+            continue;
+        }
+        printf(" %u", part->sat[i].slot);
+        for (int k = 0; k < part->sat[i].count; k++, bias++)
+            printf("/%u/%d", bias->mode, bias->value);
+    }
+}
+
+static void print_codes(const struct code_part *part)
+{
+    printf(" uras");
+    for (int i = 0; i < CODES; i++) {
+        printf(" ");
+        print_ura(ref_ura(part->code[i]));
+    }
+}
+
 static void print_contents(const struct contents *c)
 {
     printf("type %u", c->kind);
@@ -59,6 +85,12 @@ static void print_contents(const struct contents *c)
     } else if (c->kind == 2) {
         printf(" epoch %u ssr %u", (unsigned)c->orbits.epoch, c->orbits.iod_ssr);
         print_orbits(&c->orbits);
+    } else if (c->kind == 3) {
+        printf(" epoch %u ssr %u", (unsigned)c->biases.epoch, c->biases.iod_ssr);
+        print_biases(&c->biases);
+    } else if (c->kind == 5) {
+        printf(" epoch %u ssr %u iodp %u sub %u", (unsigned)c->codes.epoch, c->codes.iod_ssr, c->codes.iodp, c->codes.sub);
+        print_codes(&c->codes);
     } else if (c->kind == 4) {
         printf(" epoch %u ssr %u iodp %u sub %u", (unsigned)c->clocks.epoch, c->clocks.iod_ssr, c->clocks.iodp,
                c->clocks.first);

@@ -191,7 +191,8 @@ static void orbit_to_bytes(const struct held_orbit *orbit, uint8_t *at)
 
 /* Whatever is not held, and what is spare, is zero. All that is held is written: */
 _Static_assert(L_CLOCKS + SLOTS * L_CLOCK_BYTES == L_ORBITS, "the orbits stand behind the clocks");
-_Static_assert(L_ORBITS + SLOTS * L_ORBIT_BYTES == LEDGER_FORM_BYTES, "nothing stands behind the orbits");
+_Static_assert(L_ORBITS + SLOTS * L_ORBIT_BYTES == L_CODES, "the codes stand behind the orbits");
+_Static_assert(L_CODES + SLOTS * L_CODE_BYTES == LEDGER_FORM_BYTES, "nothing stands behind the codes");
 
 void ledger_to_bytes(const struct ledger *ledger, uint8_t bytes[LEDGER_FORM_BYTES])
 {
@@ -209,6 +210,10 @@ void ledger_to_bytes(const struct ledger *ledger, uint8_t bytes[LEDGER_FORM_BYTE
             clock_to_bytes(&ledger->clock[slot], bytes + L_CLOCKS + L_CLOCK_BYTES * (slot - 1));
         if (ledger->orbit[slot].held)
             orbit_to_bytes(&ledger->orbit[slot], bytes + L_ORBITS + L_ORBIT_BYTES * (slot - 1));
+        if (ledger->code[slot].held) {
+            bytes[L_CODES + L_CODE_BYTES * (slot - 1) + K_HELD] = 1;
+            bytes[L_CODES + L_CODE_BYTES * (slot - 1) + K_CODE] = ledger->code[slot].code;
+        }
     }
 }
 

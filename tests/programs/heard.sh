@@ -130,7 +130,7 @@ why=
 writes samples/mixed.expected
 verdict "night -m, an empty list of issues is none" "$why"
 unfit 'unfit rows 17 below 18' "night -m --min-rows" -m --min-rows 18 60 none $mixed
-unfit 'unfit refused 20 of 241 above 8 percent' "night -m --max-refused: of frames alone" -m --max-refused 8 60 none $mixed
+unfit 'unfit refused 18 of 241 above 7 percent' "night -m --max-refused: of frames alone" -m --max-refused 7 60 none $mixed
 prints samples/mixed.expected "night -m, standard input" night -m 60 none - <$mixed
 prints samples/mixed.expected "night -m, a pipe" night -m 60 none - < <(cat $mixed)
 agrees "night -m, another PRN" -m --min-rows 0 59 none $mixed

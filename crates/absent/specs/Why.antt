@@ -8,10 +8,9 @@ use Rattle.bits.specs.Pick.{pick}
 use Rattle.mask_bits.specs.Bits.{bitAtSlot}
 use Rattle.held_mask.specs.Mask.{HeldMask, maskAt}
 use Rattle.held_clocks.specs.Clocks.{heldClockAt}
-use Rattle.held_orbits.specs.Orbits.{heldOrbitAt}
 use Rattle.held_clocks.specs.declared.HeldClock.{HeldClock}
 use Rattle.held_orbits.specs.declared.HeldOrbit.{HeldOrbit}
-use Rattle.row.specs.Row.{isKnown, usable, isAssigned, qualifies}
+use Rattle.row.specs.Row.{isKnown, usable, isAssigned, qualifies, codedAt}
 use Rattle.absent.specs.declared.Why.{Why}
 use Rattle.absent.specs.declared.Why.the-variants.{Listed, Orbit, Clock, Ssr, Corr, Ura, Unusable, Issue}
 
@@ -28,9 +27,9 @@ whyOf ssr o k issue =
     (pick (not (eqb (o .iodn) issue)) Issue
     Listed))))))
 
--- why, by what a ledger's bytes hold
+-- why, by what a ledger's bytes hold; 02, CR 2: the orbit with the replaced code
 abbrev pub whyHeld : List ℕ → ℕ → ℕ → Why
-whyHeld s issue slot = whyOf (maskAt s .ssr) (heldOrbitAt s slot) (heldClockAt s slot) issue
+whyHeld s issue slot = whyOf (maskAt s .ssr) (codedAt s slot) (heldClockAt s slot) issue
 
 -- for a slot of a satellite that the mask in force has: no reason is given exactly if it qualifies
 pub record Reasoned (m : HeldMask) (o : HeldOrbit) (k : HeldClock) (issue slot : ℕ) : Type 0 where

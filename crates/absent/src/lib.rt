@@ -52,7 +52,7 @@ fn why_of(ssr: u8, o: HeldOrbit, k: HeldClock, issue: u16) -> Why
 pub fn why_absent(ledger: &[u8], slot: Slot, issue: u16) -> Why
     ensures { λ r. ⌜ r ≡ whyHeld (now (ledger .entry)) issue (slot .0) ⌝ }
 {
-    let o = held_orbits::get_orbit(ledger, slot);
+    let o = row::coded_orbit(ledger, slot);
     let k = held_clocks::get_clock(ledger, slot);
     why_of(held_mask::mask_ssr(ledger), o, k, issue)
 }

@@ -3,7 +3,7 @@ use Prim.Native.Nat.{ℕ, _*_}
 
 -- the bytes of contents
 abbrev pub contentsSize : ℕ
-contentsSize = 265
+contentsSize = 516
 
 -- the bytes of a row
 abbrev pub rowSize : ℕ

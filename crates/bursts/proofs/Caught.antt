@@ -12,8 +12,7 @@ use Rattle.bits.specs.Bits.{fieldAt}
 use Rattle.bits.specs.Some.{first}
 use Rattle.bits.proofs.PutLaws.{field-ext}
 use Rattle.check24.specs.Check.{checkOk}
-use Rattle.contents.specs.Parts.{contentsAt}
-use Rattle.judge.specs.Judge.{refusalOf}
+use Rattle.judge.specs.Judge.{refusalAt}
 use Rattle.message.specs.Read.{answer, readMessage}
 use Rattle.verdict.proofs.NumberLaws.{number-back}
 use Rattle.bursts.specs.Burst.{refusal, Passes, refusedWith, RunsCaught}
@@ -23,7 +22,7 @@ use Rattle.bursts.proofs.RunLaws.{past, run-caught}
 abbrev numberBy : Bool → Bool → Bool → ℕ → ℕ
 numberBy a b c n = first ((1, not a) ∷ (2, not b) ∷ (7, not c) ∷ (n, not (eqb n 0)) ∷ [])
 
-refusal-by : (s : List ℕ) → refusal s ≡ numberBy (eqb (length s) 61) (eqb (fieldAt s 486 2) 0) (checkOk s 0 462) (refusalOf (contentsAt s 0))
+refusal-by : (s : List ℕ) → refusal s ≡ numberBy (eqb (length s) 61) (eqb (fieldAt s 486 2) 0) (checkOk s 0 462) (refusalAt s 0)
 unfolding readMessage answer
 refusal-by s = number-back _
 
@@ -37,7 +36,7 @@ neither true true true n p q r = (refl, refl, refl)
 passes : (s : List ℕ) → Passes s → (length s ≡ 61) × (fieldAt s 486 2 ≡ 0) × (checkOk s 0 462 ≡ true)
 passes s p =
     let e = refusal-by s in
-    let a = neither _ _ _ (refusalOf (contentsAt s 0)) (λ z. p .0 (e ∙ z)) (λ z. p .1 (e ∙ z)) (λ z. p .2 (e ∙ z)) in
+    let a = neither _ _ _ (refusalAt s 0) (λ z. p .0 (e ∙ z)) (λ z. p .1 (e ∙ z)) (λ z. p .2 (e ∙ z)) in
     (eqb-true _ _ (a .0), eqb-true _ _ (a .1), a .2)
 
 -- and where the check alone is wrong, the message is refused 7

@@ -7,7 +7,7 @@ use lib.ListN.{replicate}
 use Rattle.bits.specs.Bits.{bitAt, bitsFrom, fieldAt}
 use Rattle.bits.specs.Poly.{timesX}
 use Rattle.check24.specs.Check.{feedOf, checkBits, checkOf}
-use Rattle.judge.specs.Judge.{refusalOf}
+use Rattle.judge.specs.Judge.{refusalOf, refusalAt}
 use Rattle.contents.specs.Parts.{contentsAt}
 use Rattle.verdict.specs.Verdict.{numberIn}
 use Rattle.message.specs.Read.{Answer, answer, readMessage}
@@ -24,7 +24,7 @@ pattern = replicate 57 0 ++ 0x06 ∷ 0x19 ∷ 0x33 ∷ 0xEC ∷ []
 
 -- both pass 1, 2 and 7, and are refused 8
 pub both-8 : (refusal zeros ≡ 8) × (refusal pattern ≡ 8)
-unfolding readMessage answer refusalOf contentsAt checkOf checkBits bitsFrom feedOf timesX fieldAt bitAt
+unfolding readMessage answer refusalOf refusalAt contentsAt checkOf checkBits bitsFrom feedOf timesX fieldAt bitAt
 both-8 = (refl, refl)
 
 -- a run of 25

@@ -12,19 +12,28 @@ use borrow.Author.Tests.{eq-eqb, ne-eqb, lt-ltb, le-ltb}
 use Rattle.bits.specs.Pick.{pick}
 use Rattle.bits.specs.Bits.{fieldAt}
 use Rattle.bits.specs.Table.{table}
-use Rattle.bits.proofs.TableLaws.{getD-table, table-ext}
+use Rattle.bits.proofs.TableLaws.{length-table, getD-table, table-ext}
 use Rattle.bits.proofs.FieldLaws.{field-zero}
 use Rattle.records.specs.Orbit.{blankOrbit, orbitAt}
 use Rattle.records.specs.Clock.{blankClock, clockAt}
 use Rattle.records.specs.declared.orbit.Orbit.{Orbit}
 use Rattle.records.specs.declared.clock.Clock.{Clock}
-use Rattle.contents.specs.Parts.{clocksAt, orbitsAt, noMask, noClocks, noOrbits, maskIn, clocksIn, orbitsIn, layoutAt, contentsAt}
+use Rattle.biases.specs.Biases.{noBiases}
+use Rattle.biases.specs.declared.BiasPart.{BiasPart}
+use Rattle.ura_codes.specs.Codes.{codeNth, codesAt, codePartAt, noCodes}
+use Rattle.ura_codes.specs.declared.CodePart.{CodePart}
+use Rattle.canonical_biases.specs.Canon.{canonBiases}
+use Rattle.biases_back.proofs.ReadLaws.{read-canonical}
+use Rattle.contents.specs.Parts.{clocksAt, orbitsAt, noMask, noClocks, noOrbits, maskIn, clocksIn, orbitsIn, biasesIn, codesIn, layoutAt, contentsAt}
+use Rattle.contents.proofs.PartLaws.{layout-back}
 use Rattle.layout.specs.declared.Layout.{Layout}
 use Rattle.contents.specs.declared.parts.ClockPart.{ClockPart}
 use Rattle.contents.specs.declared.parts.OrbitPart.{OrbitPart}
 use Rattle.contents.specs.declared.parts.Contents.{Contents}
-use Rattle.canonical.specs.Canon.{canonClock, canonClockRows, canonClocks, canonOrbit, canonOrbitRows, canonOrbits, layoutFor, canon}
-use Rattle.canonical.proofs.KindLaws.{layout-same}
+use Rattle.canonical.specs.Canon.{canonClock, canonClockRows, canonClocks, canonOrbit, canonOrbitRows, canonOrbits, canonCodes, layoutFor, canon}
+use Rattle.layout.proofs.LayoutLaws.{layout-same}
+use Rattle.canonical.proofs.BiasCanon.{part-twice}
+use Rattle.canonical.proofs.CodeCanon.{codes-same, codes-twice}
 
 -- picked twice by one test
 pick-right : {A : Type 0} (b : Bool) (x y : A) → pick b x (pick b x y) ≡ pick b x y
@@ -139,14 +148,30 @@ layout-canon c =
 
 -- and that of what was read
 pub layout-read : (s : List ℕ) (at : ℕ) → layoutFor (contentsAt s at) ≡ layoutAt s at
-unfolding contentsAt
-layout-read s at =
-    let l = layoutAt s at in
-    layout-same (fieldAt s at 6) (clocksIn s at l .count) (orbitsIn s at l .count) (fieldAt s (at + 6) 5) (fieldAt s (at + 6 + 5) 3)
-    (λ e. (
-      ap (λ (k : ClockPart). k .count) (sym (clocks-read s at l)) ∙ clocks-count l (clocksIn s at l),
-      ap (λ (o : OrbitPart). o .count) (sym (orbits-read s at l)) ∙ orbits-count l (orbitsIn s at l),
-    ))
+layout-read s at = layout-back s at
+
+-- ---- biases and codes
+biases-twice : (b : Bool) (p : BiasPart) → pick b (canonBiases (pick b (canonBiases p) noBiases)) noBiases ≡ pick b (canonBiases p) noBiases
+biases-twice true p = part-twice p
+biases-twice false p = refl
+
+biases-read : (s : List ℕ) (at kind : ℕ) → pick (eqb kind 3) (canonBiases (biasesIn s at kind)) noBiases ≡ biasesIn s at kind
+unfolding biasesIn
+biases-read s at kind =
+    dite (ℕ-discrete kind 3)
+    (λ e. rw (eq-eqb kind 3 e) (read-canonical s (at + 6)))
+    (λ n. rw (ne-eqb kind 3 n))
+
+codes-again : (b : Bool) (u : CodePart) → pick b (canonCodes (pick b (canonCodes u) noCodes)) noCodes ≡ pick b (canonCodes u) noCodes
+codes-again true u = codes-twice u
+codes-again false u = refl
+
+codes-read : (s : List ℕ) (at kind : ℕ) → pick (eqb kind 5) (canonCodes (codesIn s at kind)) noCodes ≡ codesIn s at kind
+unfolding codesIn codesAt
+codes-read s at kind =
+    dite (ℕ-discrete kind 5)
+    (λ e. rw (eq-eqb kind 5 e) (codes-same (codePartAt s (at + 6)) (length-table (codeNth s (at + 6 + 30)) 70)))
+    (λ n. rw (ne-eqb kind 5 n))
 
 -- the canonical form of the canonical form is itself
 pub canon-twice : (c : Contents) → canon (canon c) ≡ canon c
@@ -157,6 +182,8 @@ canon-twice c =
       pick-left (layoutFor c .mask) (c .mask) noMask,
       clocks-twice (layoutFor c) (c .clock),
       orbits-twice (layoutFor c) (c .orbit),
+      biases-twice (eqb (c .kind) 3) (c .bias),
+      codes-again (eqb (c .kind) 5) (c .code),
     )
 
 -- what is read, from any bytes, is canonical
@@ -164,4 +191,5 @@ pub canon-read : (s : List ℕ) (at : ℕ) → canon (contentsAt s at) ≡ conte
 unfolding canon contentsAt maskIn
 canon-read s at =
     let l = layoutAt s at in
-    rw (layout-read s at, pick-left (l .mask) _ noMask, clocks-read s at l, orbits-read s at l)
+    let k = fieldAt s at 6 in
+    rw (layout-read s at, pick-left (l .mask) _ noMask, clocks-read s at l, orbits-read s at l, biases-read s at k, codes-read s at k)

@@ -1,12 +1,10 @@
 -- Laws of what the types carry, for every type at once.
 use mathlib.Core.Path.{_≡_, refl, sym}
-use mathlib.Core.Logic.{dite, _⊎_, inl, inr}
+use mathlib.Core.Logic.{_⊎_, inl, inr}
 use mathlib.Core.Bool.{true, true≢false}
 use Prim.Native.Nat.{ℕ}
 use lib.Dec.{eqb}
-use native.Mathlib.Decide.{ℕ-discrete}
 use native.Mathlib.Omega.{arith}
-use borrow.Author.Tests.{ne-eqb}
 use Rattle.layout.specs.Layout.{layoutOf}
 use Rattle.layout.specs.declared.Layout.{Layout}
 use Rattle.layout.proofs.LayoutLaws.{pick-all}
@@ -35,20 +33,6 @@ alone kind numc numo =
     (pick-all Alone (eqb kind 4) _ _ (λ e. absurd (true≢false (sym e)))
     (pick-all Alone (eqb kind 6) _ _ (λ e. absurd (true≢false (sym e)))
     (pick-all Alone (eqb kind 7) _ _ (λ e. absurd (true≢false (sym e))) (λ e. absurd (true≢false (sym e)))))))
-
--- a layout of other counts is the same, where the type has no counts
-abbrev pub Counts : ℕ → ℕ → Layout → Type 0
-Counts a b l = l .head ≡ 14 → (a ≡ l .clocks) × (b ≡ l .orbits)
-
-pub layout-same : (kind a b numc numo : ℕ) → Counts a b (layoutOf kind numc numo) → layoutOf kind a b ≡ layoutOf kind numc numo
-unfolding layoutOf
-layout-same kind a b numc numo h =
-    dite (ℕ-discrete kind 6)
-    (λ e. let q = (rw e at h) refl in rw (e, q .0, q .1))
-    (λ n.
-    dite (ℕ-discrete kind 7)
-    (λ e. let q = (rw e at h) refl in rw (e, q .0, q .1))
-    (λ m. rw (ne-eqb kind 6 n, ne-eqb kind 7 m)))
 
 -- 01, types 6 and 7: the counts are those that stand after the type
 abbrev pub Counted : ℕ → ℕ → Layout → Type 0

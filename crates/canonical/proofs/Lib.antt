@@ -1,2 +1,4 @@
 pub mod KindLaws
+pub mod BiasCanon
+pub mod CodeCanon
 pub mod CanonLaws

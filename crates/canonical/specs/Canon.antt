@@ -10,6 +10,10 @@ use Rattle.records.specs.Orbit.{blankOrbit}
 use Rattle.records.specs.Clock.{blankClock}
 use Rattle.records.specs.declared.orbit.Orbit.{Orbit}
 use Rattle.records.specs.declared.clock.Clock.{Clock}
+use Rattle.biases.specs.Biases.{noBiases}
+use Rattle.ura_codes.specs.Codes.{noCodes}
+use Rattle.ura_codes.specs.declared.CodePart.{CodePart}
+use Rattle.canonical_biases.specs.Canon.{canonBiases}
 use Rattle.layout.specs.Layout.{layoutOf}
 use Rattle.contents.specs.Parts.{noMask, noClocks, noOrbits}
 use Rattle.layout.specs.declared.Layout.{Layout}
@@ -60,7 +64,12 @@ canonOrbits l o =
     pick (eqb (l .orbits) 0) noOrbits
     (record { epoch = o .epoch; ssr = o .ssr; count = l .orbits; orbits = canonOrbitRows (l .orbits) (o .orbits) })
 
--- the layout of contents; the counts of types 1, 2, 4 and 63 are not looked at
+-- 02, CR 2: the URA codes of a type 5, all 70
+unfoldable pub canonCodes : CodePart → CodePart
+canonCodes u =
+    record { epoch = u .epoch; ssr = u .ssr; iodp = u .iodp; sub = u .sub; codes = table (λ (i : ℕ). getD (u .codes) i 0) 70 }
+
+-- the layout of contents; the counts count in types 6 and 7 alone
 abbrev pub layoutFor : Contents → Layout
 layoutFor c = layoutOf (c .kind) (c .clock .count) (c .orbit .count)
 
@@ -72,4 +81,6 @@ canon c =
       mask = pick (layoutFor c .mask) (c .mask) noMask;
       clock = canonClocks (layoutFor c) (c .clock);
       orbit = canonOrbits (layoutFor c) (c .orbit);
+      bias = pick (eqb (c .kind) 3) (canonBiases (c .bias)) noBiases;
+      code = pick (eqb (c .kind) 5) (canonCodes (c .code)) noCodes;
     }

@@ -4,7 +4,12 @@ ghost use Prim.Native.Nat.{_<_};
 ghost use lib.Dec.{eqb};
 ghost use Rattle.bits.specs.Pick.{pick};
 ghost use Rattle.contents.specs.Parts.{noMask};
-ghost use Rattle.canonical.specs.Canon.{canonClock, canonClockNth, canonClockRows, canonClocks, canonOrbit, canonOrbitNth, canonOrbitRows, canonOrbits, canon};
+ghost use Rattle.biases.specs.Biases.{noBiases};
+ghost use Rattle.ura_codes.specs.Codes.{noCodes};
+ghost use Rattle.canonical_biases.specs.Canon.{canonBiases};
+ghost use Rattle.canonical.specs.Canon.{canonClock, canonClockNth, canonClockRows, canonClocks, canonOrbit, canonOrbitNth, canonOrbitRows, canonOrbits, canonCodes, canon};
+use biases::BiasPart;
+use canonical_biases::canon_biases;
 use contents::parts::ClockPart;
 use contents::parts::Contents;
 use contents::parts::MaskPart;
@@ -15,6 +20,7 @@ use records::clock::Clock;
 use records::clock::blank_clock;
 use records::orbit::Orbit;
 use records::orbit::blank_orbit;
+use ura_codes::CodePart;
 
 // The clock record as its type carries it: without a slot of its own, or blank where its slot is 0.
 fn canon_clock(slotted: bool, k: Clock) -> Clock
@@ -147,6 +153,24 @@ fn canon_mask(has: bool, m: MaskPart) -> MaskPart
     if has { m } else { contents::parts::no_mask() }
 }
 
+// The bias part where the type is 3.
+fn canon_bias_part(kind: u8, b: BiasPart) -> BiasPart
+    ensures { λ r. ⌜ r ≡ pick (eqb kind 3) (canonBiases b) noBiases ⌝ }
+{
+    if kind == 3 {
+        canon_biases(b)
+    } else {
+        biases::no_biases()
+    }
+}
+
+// The code part where the type is 5.
+fn canon_code_part(kind: u8, u: CodePart) -> CodePart
+    ensures { λ r. ⌜ r ≡ pick (eqb kind 5) (canonCodes u) noCodes ⌝ }
+{
+    if kind == 5 { u } else { ura_codes::no_codes() }
+}
+
 // The contents as their type carries them: blank records, records past a count and absent parts are all zero.
 pub fn canonical(c: Contents) -> Contents
     ensures { λ r. ⌜ r ≡ canon c ⌝ }
@@ -154,14 +178,20 @@ pub fn canonical(c: Contents) -> Contents
     let m = c.mask;
     let k = c.clock;
     let o = c.orbit;
+    let b = c.bias;
+    let u = c.code;
     let l = layout_of(c.kind, k.count, o.count);
     let mask = canon_mask(l.mask, m);
     let clock = canon_clocks(l, k);
     let orbit = canon_orbits(l, o);
+    let bias = canon_bias_part(c.kind, b);
+    let code = canon_code_part(c.kind, u);
     Contents {
         kind: c.kind,
         mask,
         clock,
         orbit,
+        bias,
+        code,
     }
 }

@@ -1,5 +1,5 @@
 -- 01, Message fields, in order: the parts of a message and how they are read. Blank records are all zero, records past a count and absent parts too.
-use Prim.Native.Nat.{ℕ, _+_, _*_}
+use Prim.Native.Nat.{ℕ, _+_, _-_, _*_}
 use mathlib.Core.Bool.{Bool}
 use mathlib.Core.List.{List}
 use lib.Dec.{eqb, ltb}
@@ -11,7 +11,11 @@ use Rattle.records.specs.Orbit.{blankOrbit, orbitAt}
 use Rattle.records.specs.Clock.{blankClock, clockAt}
 use Rattle.records.specs.declared.orbit.Orbit.{Orbit}
 use Rattle.records.specs.declared.clock.Clock.{Clock}
-use Rattle.layout.specs.Layout.{partWidths, layoutOf, orbitsFrom}
+use Rattle.biases.specs.Biases.{biasPartAt, biasEnd, noBiases}
+use Rattle.biases.specs.declared.BiasPart.{BiasPart}
+use Rattle.ura_codes.specs.Codes.{codePartAt, noCodes}
+use Rattle.ura_codes.specs.declared.CodePart.{CodePart}
+use Rattle.layout.specs.Layout.{partWidths, layoutOf, orbitsFrom, endOf}
 use Rattle.layout.specs.declared.Layout.{Layout}
 use Rattle.contents.specs.declared.parts.MaskPart.{MaskPart}
 use Rattle.contents.specs.declared.parts.ClockPart.{ClockPart}
@@ -103,6 +107,14 @@ clocksIn s at l = pick (eqb (l .clocks) 0) noClocks (clockPartAt s (at + l .head
 unfoldable pub orbitsIn : List ℕ → ℕ → Layout → OrbitPart
 orbitsIn s at l = pick (eqb (l .orbits) 0) noOrbits (orbitPartAt s (at + orbitsFrom l) l)
 
+-- 02, CR 2: type 3 alone has biases, after the type
+unfoldable pub biasesIn : List ℕ → ℕ → ℕ → BiasPart
+biasesIn s at kind = pick (eqb kind 3) (biasPartAt s (at + 6)) noBiases
+
+-- 02, CR 2: type 5 alone has URA codes by place, after the type
+unfoldable pub codesIn : List ℕ → ℕ → ℕ → CodePart
+codesIn s at kind = pick (eqb kind 5) (codePartAt s (at + 6)) noCodes
+
 -- 01: type [6]; in types 6 and 7 NumC [5] and NumO [3] follow
 abbrev pub layoutAt : List ℕ → ℕ → Layout
 layoutAt s at = layoutOf (fieldAt s at 6) (fieldAt s (at + 6) 5) (fieldAt s (at + 6 + 5) 3)
@@ -115,8 +127,14 @@ contentsAt s at =
       mask = maskIn s at (layoutAt s at);
       clock = clocksIn s at (layoutAt s at);
       orbit = orbitsIn s at (layoutAt s at);
+      bias = biasesIn s at (fieldAt s at 6);
+      code = codesIn s at (fieldAt s at 6);
     }
+
+-- 01, 9: where its parts end as the bits stand, counted from its first bit; 02, CR 2: the biases of a blank are stepped over, and count
+unfoldable pub endAt : List ℕ → ℕ → ℕ
+endAt s at = pick (eqb (fieldAt s at 6) 3) (biasEnd s (at + 6) - at) (endOf (layoutAt s at))
 
 -- 01, Refusal numbers: a refusal answers only its number
 unfoldable pub noContents : Contents
-noContents = record { kind = 0; mask = noMask; clock = noClocks; orbit = noOrbits }
+noContents = record { kind = 0; mask = noMask; clock = noClocks; orbit = noOrbits; bias = noBiases; code = noCodes }

@@ -1,8 +1,10 @@
 // The parts of a message, and a message's contents.
 ghost use mathlib.Core.Path.{_≡_};
 ghost use Rattle.contents.specs.Parts.{noMask, noClocks, noOrbits, noContents};
+use biases::BiasPart;
 use records::clock::Clock;
 use records::orbit::Orbit;
+use ura_codes::CodePart;
 
 // Type 1: the mask's 255 bits in 32 bytes, slot 1 the high bit of the first; the last bit is 0.
 pub struct MaskPart {
@@ -36,6 +38,8 @@ pub struct Contents {
     pub mask: MaskPart,
     pub clock: ClockPart,
     pub orbit: OrbitPart,
+    pub bias: BiasPart,
+    pub code: CodePart,
 }
 
 // An absent mask part.
@@ -88,10 +92,14 @@ pub fn no_contents() -> Contents
     let mask = no_mask();
     let clock = no_clocks();
     let orbit = no_orbits();
+    let bias = biases::no_biases();
+    let code = ura_codes::no_codes();
     Contents {
         kind: 0,
         mask,
         clock,
         orbit,
+        bias,
+        code,
     }
 }

@@ -1,14 +1,19 @@
 // Reading: the contents of a message that begins at any bit.
 ghost use mathlib.Core.Path.{_≡_};
 ghost use Prim.Native.Nat.{_+_, _<_, _≤_};
-ghost use Rattle.contents.specs.Parts.{clockNth, clocksAt, orbitNth, orbitsAt, maskByteAt, maskBytesAt, maskPartAt, orbitPartAt, maskIn, clocksIn, orbitsIn, layoutAt, contentsAt};
+ghost use Rattle.contents.specs.Parts.{clockNth, clocksAt, orbitNth, orbitsAt, maskByteAt, maskBytesAt, maskPartAt, orbitPartAt, maskIn, clocksIn, orbitsIn, layoutAt, contentsAt, endAt};
 use crate::parts::ClockPart;
 use crate::parts::Contents;
 use crate::parts::MaskPart;
 use crate::parts::OrbitPart;
 use crate::parts::no_mask;
 use crate::parts::no_orbits;
+use biases::BiasPart;
+use biases::biases_end;
+use biases::no_biases;
+use biases::read_biases;
 use layout::Layout;
+use layout::end_of;
 use layout::layout_of;
 use layout::orbits_from;
 use records::clock::Clock;
@@ -17,6 +22,9 @@ use records::clock::clock_at;
 use records::orbit::Orbit;
 use records::orbit::blank_orbit;
 use records::orbit::orbit_at;
+use ura_codes::CodePart;
+use ura_codes::no_codes;
+use ura_codes::read_codes;
 
 // Clock record i, from 0, of a row of them; blank past the count.
 fn nth_clock(s: &[u8], at: u32, slotted: bool, count: u8, i: u32) -> Clock
@@ -229,6 +237,38 @@ pub fn orbits_of(s: &[u8], at: u8) -> OrbitPart
     orbits_in(s, at, layout_at(s, at))
 }
 
+// Its biases alone.
+pub fn biases_of(s: &[u8], at: u8) -> BiasPart
+    ensures { λ r. ⌜ r ≡ contentsAt (now (s .entry)) at .bias ⌝ }
+{
+    if kind_of(s, at) == 3 {
+        read_biases(s, at as u16 + 6)
+    } else {
+        no_biases()
+    }
+}
+
+// Its URA codes alone.
+pub fn codes_of(s: &[u8], at: u8) -> CodePart
+    ensures { λ r. ⌜ r ≡ contentsAt (now (s .entry)) at .code ⌝ }
+{
+    if kind_of(s, at) == 5 {
+        read_codes(s, at as u16 + 6)
+    } else {
+        no_codes()
+    }
+}
+
+// Where its parts end as the bits stand, counted from its first bit.
+pub fn end_at(s: &[u8], at: u8) -> u32
+    ensures { λ r. ⌜ r ≡ endAt (now (s .entry)) at ⌝ }
+{
+    if kind_of(s, at) == 3 {
+        return biases_end(s, at as u16 + 6) - at as u32;
+    }
+    end_of(layout_at(s, at))
+}
+
 // The contents of the message that begins at bit at, its check and its limits left aside.
 pub fn contents_at(s: &[u8], at: u8) -> Contents
     ensures { λ r. ⌜ r ≡ contentsAt (now (s .entry)) at ⌝ }
@@ -237,10 +277,14 @@ pub fn contents_at(s: &[u8], at: u8) -> Contents
     let mask = mask_of(s, at);
     let clock = clocks_of(s, at);
     let orbit = orbits_of(s, at);
+    let bias = biases_of(s, at);
+    let code = codes_of(s, at);
     Contents {
         kind,
         mask,
         clock,
         orbit,
+        bias,
+        code,
     }
 }

@@ -3,6 +3,7 @@ use crate::ask::issues;
 use crate::say::say;
 use crate::say::say_number;
 use crate::say::say_row;
+use held_mask::LEDGER_SIZE;
 use ledger::Ledger;
 use ledger::open::open;
 use ledger::take::take;
@@ -14,7 +15,7 @@ use verdict::number_of;
 
 // A ledger for PRN 60.
 pub(crate) fn opened() -> Ledger {
-    let mut ledger = [0u8; 9216];
+    let mut ledger = [0u8; LEDGER_SIZE];
     open(&mut ledger, 60);
     ledger
 }
@@ -148,4 +149,11 @@ pub(crate) fn the_newest() {
     case(b"dropped-clock", true);
     case(b"unusable-newer", true);
     case(b"own-epochs", true);
+}
+
+// The cases of CR 2: code biases, and URA codes that replace an orbit's own.
+pub(crate) fn biases_and_codes() {
+    case(b"biases", false);
+    case(b"codes", true);
+    case(b"70-set-bits", false);
 }

@@ -8,6 +8,7 @@ mod cases;
 mod say;
 mod sheet;
 
+use held_mask::LEDGER_SIZE;
 use libc::STDOUT_FILENO;
 use say::say;
 use say::say_number;
@@ -176,7 +177,7 @@ fn say_read_bit(text: &[u8], at: usize) {
 
 // Whether a ledger can be opened for a PRN.
 fn opens(prn: u8) -> bool {
-    let mut ledger = [0u8; 9216];
+    let mut ledger = [0u8; LEDGER_SIZE];
     number_of(ledger::open::open(&mut ledger, prn)) == 0
 }
 
@@ -247,5 +248,6 @@ fn main() {
     cases::refusals();
     cases::the_list();
     cases::the_newest();
+    cases::biases_and_codes();
     ask::asked();
 }

@@ -13,9 +13,13 @@ use Rattle.contents.specs.declared.parts.ClockPart.{ClockPart}
 use Rattle.contents.specs.declared.parts.OrbitPart.{OrbitPart}
 use Rattle.contents.specs.declared.parts.Contents.{Contents}
 use Rattle.row.specs.declared.Row.{Row}
-use Rattle.flat_forms.specs.Write.{flatClockRow, flatOrbitRow, rowsTo, maskHead, clockHead, orbitHead, flatMaskBytes, clocksBytes, orbitsBytes, contentsBytes, rowList, rowBytes}
+use Rattle.flat_biases.specs.Biases.{biasesBytes}
+use Rattle.flat_biases.specs.Codes.{codesBytes}
+use Rattle.flat_biases.proofs.FlatLaws.{biases-long, codes-long}
+use Rattle.flat_numbers.specs.Rows.{rowsTo}
+use Rattle.flat_forms.specs.Write.{flatClockRow, flatOrbitRow, maskHead, clockHead, orbitHead, flatMaskBytes, clocksBytes, orbitsBytes, contentsBytes, rowList, rowBytes}
 use Rattle.flat_numbers.proofs.StoreLaws.{store-two, store-whole}
-use Rattle.flat_forms.proofs.StoreLaws.{length-rows}
+use Rattle.flat_numbers.proofs.RowLaws.{length-rows}
 
 -- ---- lengths
 pub length-clocks : (ks : List Clock) (n : ℕ) → length (rowsTo (flatClockRow ks) n) ≡ 5 * n
@@ -36,12 +40,27 @@ pub orbits-long : (p : OrbitPart) → length (orbitsBytes p) ≡ 102
 unfolding orbitsBytes
 orbits-long p = length-append (orbitHead (p .epoch) (p .ssr) (p .count)) (rowsTo (flatOrbitRow (p .orbits)) 6) ∙ omega (arith, length-orbits (p .orbits) 6)
 
--- contents are 265 bytes
-pub contents-long : (c : Contents) → length (contentsBytes c) ≡ 265
+-- contents are 516 bytes
+pub contents-long : (c : Contents) → length (contentsBytes c) ≡ 516
 unfolding contentsBytes
 contents-long c =
-    length-append (flatMaskBytes (c .kind) (c .mask)) (clocksBytes (c .clock) ++ orbitsBytes (c .orbit))
-    ∙ omega (arith, mask-long (c .kind) (c .mask), length-append (clocksBytes (c .clock)) (orbitsBytes (c .orbit)), clocks-long (c .clock), orbits-long (c .orbit))
+    let m = flatMaskBytes (c .kind) (c .mask) in
+    let k = clocksBytes (c .clock) in
+    let o = orbitsBytes (c .orbit) in
+    let b = biasesBytes (c .bias) in
+    let u = codesBytes (c .code) in
+    length-append m (k ++ (o ++ (b ++ u)))
+    ∙ omega (
+      arith,
+      length-append k (o ++ (b ++ u)),
+      length-append o (b ++ u),
+      length-append b u,
+      mask-long (c .kind) (c .mask),
+      clocks-long (c .clock),
+      orbits-long (c .orbit),
+      biases-long (c .bias),
+      codes-long (c .code),
+    )
 
 -- a row is 27 bytes
 pub row-long : (r : Row) → length (rowBytes r) ≡ 27
@@ -74,15 +93,21 @@ pub orbits-two : (s : List ℕ) (p : OrbitPart) → storeAt (storeAt s 163 (orbi
 unfolding orbitsBytes
 orbits-two s p = store-two s 163 169 (orbitHead (p .epoch) (p .ssr) (p .count)) (rowsTo (flatOrbitRow (p .orbits)) 6) refl
 
-pub contents-three : (s : List ℕ) (c : Contents) → storeAt (storeAt (storeAt s 0 (flatMaskBytes (c .kind) (c .mask))) 39 (clocksBytes (c .clock))) 163 (orbitsBytes (c .orbit)) ≡ storeAt s 0 (contentsBytes c)
+pub contents-four : (s : List ℕ) (c : Contents)
+    → storeAt (storeAt (storeAt (storeAt s 0 (flatMaskBytes (c .kind) (c .mask))) 39 (clocksBytes (c .clock))) 163 (orbitsBytes (c .orbit))) 265 (biasesBytes (c .bias) ++ codesBytes (c .code))
+    ≡ storeAt s 0 (contentsBytes c)
 unfolding contentsBytes
-contents-three s c =
+contents-four s c =
     let m = flatMaskBytes (c .kind) (c .mask) in
-    store-two (storeAt s 0 m) 39 163 (clocksBytes (c .clock)) (orbitsBytes (c .orbit)) (omega (arith, clocks-long (c .clock)))
-    ∙ store-two s 0 39 m (clocksBytes (c .clock) ++ orbitsBytes (c .orbit)) (omega (arith, mask-long (c .kind) (c .mask)))
+    let k = clocksBytes (c .clock) in
+    let o = orbitsBytes (c .orbit) in
+    let last = biasesBytes (c .bias) ++ codesBytes (c .code) in
+    store-two (storeAt (storeAt s 0 m) 39 k) 163 265 o last (omega (arith, orbits-long (c .orbit)))
+    ∙ store-two (storeAt s 0 m) 39 163 k (o ++ last) (omega (arith, clocks-long (c .clock)))
+    ∙ store-two s 0 39 m (k ++ (o ++ last)) (omega (arith, mask-long (c .kind) (c .mask)))
 
 -- ---- a room of their length becomes the bytes
-pub contents-whole : (s : List ℕ) (c : Contents) → length s ≡ 265 → storeAt s 0 (contentsBytes c) ≡ contentsBytes c
+pub contents-whole : (s : List ℕ) (c : Contents) → length s ≡ 516 → storeAt s 0 (contentsBytes c) ≡ contentsBytes c
 contents-whole s c e = store-whole s (contentsBytes c) (e ∙ sym (contents-long c))
 
 pub row-whole : (s : List ℕ) (r : Row) → length s ≡ 27 → storeAt s 0 (rowBytes r) ≡ rowBytes r

@@ -1,10 +1,13 @@
--- The C boundary: the 265 bytes of contents and the 27 of a row. Numbers are high byte first, those with a sign in two's complement.
-use Prim.Native.Nat.{ℕ, zero, suc, _/_, _%_}
+-- The C boundary: the 516 bytes of contents and the 27 of a row. Numbers are high byte first, those with a sign in two's complement.
+use Prim.Native.Nat.{ℕ, _/_, _%_}
 use mathlib.Core.List.{List, [], _∷_, _++_}
 use lib.IntN.{ℤ}
 use lib.ListN.{getD}
 use Rattle.bits.specs.Bytes.{rowAt}
 use Rattle.records.specs.Signed.{rawHalf}
+use Rattle.flat_numbers.specs.Rows.{word, rowsTo}
+use Rattle.flat_biases.specs.Biases.{biasesBytes}
+use Rattle.flat_biases.specs.Codes.{codesBytes}
 use Rattle.records.specs.Orbit.{blankOrbit}
 use Rattle.records.specs.Clock.{blankClock}
 use Rattle.ura.specs.Ura.{kindOf, quartersIn}
@@ -18,18 +21,9 @@ use Rattle.contents.specs.declared.parts.OrbitPart.{OrbitPart}
 use Rattle.contents.specs.declared.parts.Contents.{Contents}
 use Rattle.row.specs.declared.Row.{Row}
 
--- the two bytes' number of a number with its sign
-abbrev pub word : ℤ → ℕ
-word z = rawHalf 32768 z
-
 -- the four bytes' number of a number with its sign
 abbrev pub long : ℤ → ℕ
 long z = rawHalf 2147483648 z
-
--- f 0, f 1, .. f (n - 1), one after the other
-unfoldable pub rowsTo : (ℕ → List ℕ) → ℕ → List ℕ
-rowsTo f zero = []
-rowsTo f (suc n) = rowsTo f n ++ f n
 
 -- clock record: slot (2), IOD Corr (1), C0 (2)
 abbrev pub flatClockBytes : Clock → List ℕ
@@ -100,9 +94,10 @@ clocksBytes p = clockHead (p .epoch) (p .ssr) (p .iodp) (p .start) (p .count) ++
 unfoldable pub orbitsBytes : OrbitPart → List ℕ
 orbitsBytes p = orbitHead (p .epoch) (p .ssr) (p .count) ++ rowsTo (flatOrbitRow (p .orbits)) 6
 
--- contents: 265 bytes
+-- contents: 516 bytes; 02, CR 2: the parts of types 3 and 5 stand last
 unfoldable pub contentsBytes : Contents → List ℕ
-contentsBytes c = flatMaskBytes (c .kind) (c .mask) ++ (clocksBytes (c .clock) ++ orbitsBytes (c .orbit))
+contentsBytes c =
+    flatMaskBytes (c .kind) (c .mask) ++ (clocksBytes (c .clock) ++ (orbitsBytes (c .orbit) ++ (biasesBytes (c .bias) ++ codesBytes (c .code))))
 
 -- the byte of a system: 1 BeiDou, 2 GPS, 3 Galileo, 4 GLONASS
 abbrev pub systemOf : System → ℕ

@@ -3,11 +3,13 @@ ghost use mathlib.Core.Path.{_≡_};
 ghost use Prim.Native.Nat.{_<_};
 ghost use lib.ListN.{getD};
 ghost use Rattle.bits.specs.Bytes.{storeAt};
-ghost use Rattle.flat_forms.specs.Write.{flatClockBytes, flatClockRow, flatOrbitBytes, flatOrbitRow, rowsTo, maskHead, clockHead, orbitHead, flatMaskBytes, clocksBytes, orbitsBytes, contentsBytes, systemOf, rowBytes};
+ghost use Rattle.flat_numbers.specs.Rows.{rowsTo};
+ghost use Rattle.flat_forms.specs.Write.{flatClockBytes, flatClockRow, flatOrbitBytes, flatOrbitRow, maskHead, clockHead, orbitHead, flatMaskBytes, clocksBytes, orbitsBytes, contentsBytes, systemOf, rowBytes};
 use contents::parts::ClockPart;
 use contents::parts::Contents;
 use contents::parts::MaskPart;
 use contents::parts::OrbitPart;
+use flat_biases::put_last_parts;
 use flat_numbers::raw16;
 use flat_numbers::raw32;
 use records::clock::Clock;
@@ -207,9 +209,12 @@ pub fn put_contents(room: &mut [u8], c: Contents)
     let m = c.mask;
     let k = c.clock;
     let o = c.orbit;
+    let b = c.bias;
+    let u = c.code;
     put_mask_part(room, c.kind, m);
     put_clock_part(room, k);
     put_orbit_part(room, o);
+    put_last_parts(room, b, u);
 }
 
 // The bytes of a row.

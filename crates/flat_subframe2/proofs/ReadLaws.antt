@@ -10,7 +10,7 @@ use Rattle.bits.specs.Bytes.{storeAt}
 use Rattle.verdict.specs.Verdict.{numberIn, refusedBy}
 use Rattle.verdict.proofs.NumberLaws.{number-back}
 use Rattle.flat_numbers.proofs.StoreLaws.{store-whole}
-use Rattle.flat_forms.proofs.StoreLaws.{length-rows}
+use Rattle.flat_numbers.proofs.RowLaws.{length-rows}
 use Rattle.subframe2.specs.Read.{subframe2Refusal}
 use Rattle.flat_subframe2.specs.Write.{flatField, fieldsBytes}
 use Rattle.flat_subframe2.specs.Read.{fieldsRefusal}

@@ -4,7 +4,7 @@ use mathlib.Core.List.{List, [], _∷_}
 use lib.IntN.{ℤ, pos}
 use lib.ListN.{getD}
 use Rattle.records.specs.Signed.{rawHalf}
-use Rattle.flat_forms.specs.Write.{rowsTo}
+use Rattle.flat_numbers.specs.Rows.{rowsTo}
 
 -- the eight bytes of a number of 64 bits
 abbrev pub eightBytes : ℕ → List ℕ

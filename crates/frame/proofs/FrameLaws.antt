@@ -1,7 +1,7 @@
 -- Laws of refusals, and of the contents of a frame that none applies to.
 use mathlib.Core.Path.{_≡_, refl, sym}
 use mathlib.Core.Logic.{_≢_, dite}
-use mathlib.Core.Bool.{Bool, true, false, not}
+use mathlib.Core.Bool.{Bool, true, false, not, _||_}
 use mathlib.Core.List.{List, [], _∷_}
 use Prim.Native.Nat.{ℕ, _+_, _≤_}
 use native.Mathlib.Decide.{ℕ-discrete}
@@ -10,15 +10,20 @@ use lib.Dec.{eqb}
 use lib.ListN.{length}
 use borrow.Author.Tests.{eq-eqb, ne-eqb, not-false}
 use Rattle.bits.specs.Pick.{pick}
-use Rattle.bits.specs.Some.{first}
 use Rattle.bits.proofs.TableLaws.{length-table}
 use Rattle.records.specs.Clock.{blankClock}
 use Rattle.records.specs.Orbit.{blankOrbit}
 use Rattle.layout.specs.Layout.{orbitsFrom}
-use Rattle.contents.specs.Parts.{clockNth, orbitNth, maskPartAt, clockPartAt, orbitPartAt, layoutAt, clocksAt, orbitsAt, noMask, noClocks, noOrbits, maskIn, clocksIn, orbitsIn, contentsAt}
+use Rattle.contents.specs.Parts.{clockNth, orbitNth, maskPartAt, clockPartAt, orbitPartAt, layoutAt, clocksAt, orbitsAt, noMask, noClocks, noOrbits, maskIn, clocksIn, orbitsIn, biasesIn, codesIn, contentsAt, endAt}
 use Rattle.contents.proofs.MaskLaws.{bytes-long, none-long}
 use Rattle.layout.proofs.LayoutLaws.{pick-all}
-use Rattle.judge.specs.Judge.{isKind, tooLong, late, highSlot, twice, refusalOf}
+use Rattle.bits.specs.Some.{anyOf, first}
+use Rattle.biases.specs.Biases.{biasPartAt, satsAt, satCount, blankSat, noBiases}
+use Rattle.biases.proofs.FilledLaws.{length-filled}
+use Rattle.biases.specs.declared.BiasPart.{BiasPart}
+use Rattle.ura_codes.specs.Codes.{codeNth, codesAt, codePartAt, noCodes}
+use Rattle.ura_codes.specs.declared.CodePart.{CodePart}
+use Rattle.judge.specs.Judge.{isKind, tooLong, late, isHigh, isAgain, satSlots, highSlot, twice, refusalOf, refusalAt}
 use Rattle.contents.specs.declared.parts.MaskPart.{MaskPart}
 use Rattle.contents.specs.declared.parts.ClockPart.{ClockPart}
 use Rattle.contents.specs.declared.parts.OrbitPart.{OrbitPart}
@@ -47,25 +52,25 @@ pub second : (a b : ℕ) → a ≡ 0 → first ((a, not (eqb a 0)) ∷ (b, not (
 second a b e = dite (ℕ-discrete b 0) (λ q. rw (eq-eqb a 0 e, eq-eqb b 0 q) (sym q)) (λ q. rw (eq-eqb a 0 e, ne-eqb b 0 q))
 
 -- ---- a frame that is not refused: neither its shell is, nor its contents
-pub parts-zero : (foreign : Bool) (f : List ℕ) → refusalWith foreign f ≡ 0 → (shellRefusal foreign f ≡ 0) × (refusalOf (contentsOf f) ≡ 0)
+pub parts-zero : (foreign : Bool) (f : List ℕ) → refusalWith foreign f ≡ 0 → (shellRefusal foreign f ≡ 0) × (refusalAt f 28 ≡ 0)
 unfolding refusalWith
-parts-zero foreign f e = neither (shellRefusal foreign f) (refusalOf (contentsOf f)) e
+parts-zero foreign f e = neither (shellRefusal foreign f) (refusalAt f 28) e
 
 -- ---- contents that are not refused: none of 8 to 12 applies
-pub record Sound (c : Contents) : Type 0 where
+pub record Sound (end : ℕ) (c : Contents) : Type 0 where
   pub kind : isKind (c .kind) ≡ true
-  pub short : tooLong (c .kind) (c .clock .count) (c .orbit .count) ≡ false
-  pub early : late (c .mask .epoch) (c .clock .epoch) (c .orbit .epoch) ≡ false
-  pub low : highSlot (c .kind) (c .clock) (c .orbit) ≡ false
-  pub once : twice (c .clock) (c .orbit) ≡ false
+  pub short : tooLong end ≡ false
+  pub early : late c ≡ false
+  pub low : (highSlot (c .kind) (c .clock) (c .orbit) || anyOf isHigh (satSlots (c .bias .sats))) ≡ false
+  pub once : (twice (c .clock) (c .orbit) || anyOf isAgain (satSlots (c .bias .sats))) ≡ false
 
-pub sound : (c : Contents) → refusalOf c ≡ 0 → Sound c
+pub sound : (end : ℕ) (c : Contents) → refusalOf end c ≡ 0 → Sound end c
 unfolding refusalOf
-sound c e =
-    let b9 = tooLong (c .kind) (c .clock .count) (c .orbit .count) in
-    let b10 = late (c .mask .epoch) (c .clock .epoch) (c .orbit .epoch) in
-    let b11 = highSlot (c .kind) (c .clock) (c .orbit) in
-    let b12 = twice (c .clock) (c .orbit) in
+sound end c e =
+    let b9 = tooLong end in
+    let b10 = late c in
+    let b11 = highSlot (c .kind) (c .clock) (c .orbit) || anyOf isHigh (satSlots (c .bias .sats)) in
+    let b12 = twice (c .clock) (c .orbit) || anyOf isAgain (satSlots (c .bias .sats)) in
     let n12 = pick {A = ℕ} b12 12 0 in
     let n11 = pick {A = ℕ} b11 11 n12 in
     let n10 = pick {A = ℕ} b10 10 n11 in
@@ -75,6 +80,11 @@ sound c e =
     let r11 = skipped 11 b11 n12 (omega arith) (r10 .1) in
     let r12 = skipped 12 b12 0 (omega arith) (r11 .1) in
     record { kind = not-false (isKind (c .kind)) (r8 .0); short = r9 .0; early = r10 .0; low = r11 .0; once = r12 .0 }
+
+-- of a message as its bits stand
+pub sound-at : (s : List ℕ) (at : ℕ) → refusalAt s at ≡ 0 → Sound (endAt s at) (contentsAt s at)
+unfolding refusalAt
+sound-at s at e = sound (endAt s at) (contentsAt s at) e
 
 -- ---- the parts of a frame's contents are as long as their arrays
 pub mask-long : (f : List ℕ) → length (contentsOf f .mask .bytes) ≡ 32
@@ -102,3 +112,17 @@ orbits-long f =
     go : (b : Bool) (p : OrbitPart) → length (p .orbits) ≡ 6 → length (pick b noOrbits p .orbits) ≡ 6
     go true p e = length-table (λ (i : ℕ). blankOrbit) 6
     go false p e = e
+
+pub sats-long : (f : List ℕ) → length (contentsOf f .bias .sats) ≡ 31
+unfolding contentsAt biasesIn noBiases
+sats-long f =
+    pick-all (λ (b : BiasPart). length (b .sats) ≡ 31) (eqb (contentsOf f .kind) 3) (biasPartAt f 34) noBiases
+    (length-filled 31 blankSat (satsAt f (34 + 28) (satCount f 34)))
+    (length-table (λ (i : ℕ). blankSat) 31)
+
+pub codes-long : (f : List ℕ) → length (contentsOf f .code .codes) ≡ 70
+unfolding contentsAt codesIn noCodes codesAt
+codes-long f =
+    pick-all (λ (u : CodePart). length (u .codes) ≡ 70) (eqb (contentsOf f .kind) 5) (codePartAt f 34) noCodes
+    (length-table (codeNth f (34 + 30)) 70)
+    (length-table (λ (i : ℕ). 0) 70)

@@ -10,7 +10,7 @@ use Rattle.bits.specs.Some.{first}
 use Rattle.check24.specs.Check.{checkOk}
 use Rattle.parity.specs.Parity.{parityOk, failedGroups}
 use Rattle.contents.specs.Parts.{contentsAt, noContents}
-use Rattle.judge.specs.Judge.{refusalOf}
+use Rattle.judge.specs.Judge.{refusalAt}
 use Rattle.verdict.specs.Verdict.{refusedBy}
 use Rattle.contents.specs.declared.parts.Contents.{Contents}
 use Rattle.message.specs.Read.{Answer}
@@ -38,7 +38,7 @@ shellRefusal foreign f =
 -- 01, Refusal numbers: those of the frame around its message, then 8 to 12
 unfoldable pub refusalWith : Bool → List ℕ → ℕ
 refusalWith foreign f =
-    first ((shellRefusal foreign f, not (eqb (shellRefusal foreign f) 0)) ∷ (refusalOf (contentsOf f), not (eqb (refusalOf (contentsOf f)) 0)) ∷ [])
+    first ((shellRefusal foreign f, not (eqb (shellRefusal foreign f) 0)) ∷ (refusalAt f 28, not (eqb (refusalAt f 28) 0)) ∷ [])
 
 -- 02, CR 1: what is said of a frame's number; 6 also gives the first failing group and how many of the 81 fail
 unfoldable pub frameSays : List ℕ → ℕ → List ℕ

@@ -4,10 +4,8 @@ ghost use Rattle.verdict.specs.Verdict.{says};
 ghost use Rattle.message.specs.Read.{readingSays};
 ghost use Rattle.frame.specs.Frame.{prnOf, isPrn, shellRefusal, frameSays, readFrame, shellFor, readWith};
 use contents::parts::no_contents;
-use contents::read::contents_at;
-use judge::refusal_of;
 use message::Reading;
-use message::answer_of;
+use message::read_at;
 use verdict::Verdict;
 use verdict::number_of;
 
@@ -53,8 +51,7 @@ fn read_with(f: &[u8], foreign: bool) -> Reading
         let contents = no_contents();
         return Reading { verdict, contents };
     }
-    let c = contents_at(f, 28);
-    answer_of(refusal_of(c), c)
+    read_at(f, 28)
 }
 
 // A frame read without a ledger: refusals 1, 3, 5 to 13.

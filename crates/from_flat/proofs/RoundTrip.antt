@@ -1,12 +1,10 @@
 -- The bytes of contents say the contents, whatever numbers they hold, as long as numbers with a sign fit two bytes.
 use mathlib.Core.Path.{_≡_, refl, ap, _∙_}
-use mathlib.Core.Logic.{⊎-elim}
-use Prim.Native.Nat.{ℕ, zero, suc, _+_, _*_, _<_, _≤_}
+use Prim.Native.Nat.{ℕ, _+_, _*_, _<_}
 use mathlib.Core.List.{List, _++_}
 use lib.ListN.{getD, length, List·getD-append}
-use lib.Seq.{getD-append-add}
 use lib.Signed.{mag}
-use native.Mathlib.Nat.{zero-add, not-suc-le-zero, eq-or-lt-of-le, le-of-suc-le-suc, mul-le-mul-left, mul-suc}
+use native.Mathlib.Nat.{zero-add}
 use native.Mathlib.Omega.{arith}
 use Rattle.ura.proofs.UraLaws.{kind-back}
 use Rattle.bits.specs.Bytes.{rowAt}
@@ -21,26 +19,14 @@ use Rattle.records.specs.declared.clock.Clock.{Clock}
 use Rattle.contents.specs.declared.parts.Contents.{Contents}
 use Rattle.ura.specs.Ura.{quartersIn}
 use Rattle.from_flat.specs.Read.{flatClockNth, flatClocksAt, flatOrbitNth, flatOrbitsAt, flatMaskIn, flatClocksIn, flatOrbitsIn, flatContentsOf}
-use Rattle.flat_forms.specs.Write.{word, flatClockRow, flatOrbitRow, rowsTo, maskHead, clockHead, orbitHead, flatMaskBytes, clocksBytes, orbitsBytes, contentsBytes}
-use Rattle.flat_forms.proofs.StoreLaws.{length-rows}
-use Rattle.flat_forms.proofs.FlatLaws.{mask-long, clocks-long}
-
--- the byte after m others
-right : (xs ys : List ℕ) (m n at : ℕ) → length xs ≡ m → at ≡ m + n → getD (xs ++ ys) at 0 ≡ getD ys n 0
-right xs ys m n at e p = rw (p, ← e) (getD-append-add xs ys n 0)
-
--- byte k of row i
-module _ (f : ℕ → List ℕ) (w : ℕ) (long : (i : ℕ) → length (f i) ≡ w) where
-  row-at : (n i k : ℕ) → i < n → k < w → getD (rowsTo f n) (w * i + k) 0 ≡ getD (f i) k 0
-  unfolding rowsTo
-  row-at zero i k h l = absurd (not-suc-le-zero h)
-  row-at (suc n) i k h l =
-      ⊎-elim
-      (λ (e : i ≡ n). rw e (right (rowsTo f n) (f n) (w * n) k (w * n + k) (length-rows f w long n) refl))
-      (λ (b : i < n).
-      let m : w * suc i ≤ w * n = mul-le-mul-left w b in
-      List·getD-append (rowsTo f n) (f n) 0 (w * i + k) (omega (arith, length-rows f w long n, mul-suc w i)) ∙ row-at n i k b l)
-      (eq-or-lt-of-le (le-of-suc-le-suc h))
+use Rattle.flat_numbers.specs.Rows.{word, rowsTo}
+use Rattle.flat_forms.specs.Write.{flatClockRow, flatOrbitRow, maskHead, clockHead, orbitHead, flatMaskBytes, clocksBytes, orbitsBytes, contentsBytes}
+use Rattle.flat_numbers.proofs.RowLaws.{right, row-at}
+use Rattle.flat_forms.proofs.FlatLaws.{mask-long, clocks-long, orbits-long}
+use Rattle.flat_biases.specs.Biases.{biasesBytes}
+use Rattle.flat_biases.specs.Codes.{codesBytes}
+use Rattle.flat_biases.proofs.FlatLaws.{biases-long}
+use Rattle.flat_biases.proofs.BackLaws.{BiasesSound, bias-part-back, code-part-back}
 
 -- a number with its sign fits two bytes
 abbrev pub Fits16 : Clock → Type 0
@@ -59,6 +45,8 @@ pub record Sound (c : Contents) : Type 0 where
   pub orbits : length (c .orbit .orbits) ≡ 6
   pub clock : (i : ℕ) → i < 23 → Fits16 (getD (c .clock .clocks) i blankClock)
   pub orbit : (i : ℕ) → i < 6 → OrbitFits (getD (c .orbit .orbits) i blankOrbit)
+  pub bias : BiasesSound (c .bias)
+  pub codes : length (c .code .codes) ≡ 70
 
 module _ (c : Contents) where
   -- where the bytes of each part stand
@@ -77,17 +65,39 @@ module _ (c : Contents) where
       ∙ getD-row (c .mask .bytes) 0 32 i h
       ∙ ap (λ (j : ℕ). getD (c .mask .bytes) j 0) (zero-add i)
 
+  -- what follows the mask, the clocks, the orbits
+  abbrev last : List ℕ
+  last = biasesBytes (c .bias) ++ codesBytes (c .code)
+
+  abbrev from-orbits : List ℕ
+  from-orbits = orbitsBytes (c .orbit) ++ last
+
   clock-byte : (k at : ℕ) → k < 124 → at ≡ 39 + k → getD (contentsBytes c) at 0 ≡ getD (clocksBytes (c .clock)) k 0
   unfolding contentsBytes
   clock-byte k at h e =
       right (flatMaskBytes (c .kind) (c .mask)) _ 39 k at (mask-long (c .kind) (c .mask)) e
-      ∙ List·getD-append (clocksBytes (c .clock)) (orbitsBytes (c .orbit)) 0 k (omega (arith, clocks-long (c .clock)))
+      ∙ List·getD-append (clocksBytes (c .clock)) from-orbits 0 k (omega (arith, clocks-long (c .clock)))
 
-  orbit-byte : (k at : ℕ) → at ≡ 163 + k → getD (contentsBytes c) at 0 ≡ getD (orbitsBytes (c .orbit)) k 0
+  after-clocks : (k at : ℕ) → at ≡ 163 + k → getD (contentsBytes c) at 0 ≡ getD from-orbits k 0
   unfolding contentsBytes
-  orbit-byte k at e =
+  after-clocks k at e =
       right (flatMaskBytes (c .kind) (c .mask)) _ 39 (124 + k) at (mask-long (c .kind) (c .mask)) (omega arith)
-      ∙ right (clocksBytes (c .clock)) (orbitsBytes (c .orbit)) 124 k (124 + k) (clocks-long (c .clock)) refl
+      ∙ right (clocksBytes (c .clock)) from-orbits 124 k (124 + k) (clocks-long (c .clock)) refl
+
+  orbit-byte : (k at : ℕ) → k < 102 → at ≡ 163 + k → getD (contentsBytes c) at 0 ≡ getD (orbitsBytes (c .orbit)) k 0
+  orbit-byte k at h e = after-clocks k at e ∙ List·getD-append (orbitsBytes (c .orbit)) last 0 k (omega (arith, orbits-long (c .orbit)))
+
+  bias-byte : (k at : ℕ) → k < 174 → at ≡ 265 + k → getD (contentsBytes c) at 0 ≡ getD (biasesBytes (c .bias)) k 0
+  bias-byte k at h e =
+      after-clocks (102 + k) at (omega arith)
+      ∙ right (orbitsBytes (c .orbit)) last 102 k (102 + k) (orbits-long (c .orbit)) refl
+      ∙ List·getD-append (biasesBytes (c .bias)) (codesBytes (c .code)) 0 k (omega (arith, biases-long (c .bias)))
+
+  code-byte : (k at : ℕ) → k < 77 → at ≡ 439 + k → getD (contentsBytes c) at 0 ≡ getD (codesBytes (c .code)) k 0
+  code-byte k at h e =
+      after-clocks (102 + (174 + k)) at (omega arith)
+      ∙ right (orbitsBytes (c .orbit)) last 102 (174 + k) (102 + (174 + k)) (orbits-long (c .orbit)) refl
+      ∙ right (biasesBytes (c .bias)) (codesBytes (c .code)) 174 k (174 + k) (biases-long (c .bias)) refl
 
   clock-head : (k at : ℕ) → k < 9 → at ≡ 39 + k →
       getD (contentsBytes c) at 0 ≡ getD (clockHead (c .clock .epoch) (c .clock .ssr) (c .clock .iodp) (c .clock .start) (c .clock .count)) k 0
@@ -99,7 +109,7 @@ module _ (c : Contents) where
   orbit-head : (k at : ℕ) → k < 6 → at ≡ 163 + k → getD (contentsBytes c) at 0 ≡ getD (orbitHead (c .orbit .epoch) (c .orbit .ssr) (c .orbit .count)) k 0
   unfolding orbitsBytes
   orbit-head k at h e =
-      orbit-byte k at e
+      orbit-byte k at (omega arith) e
       ∙ List·getD-append (orbitHead (c .orbit .epoch) (c .orbit .ssr) (c .orbit .count)) (rowsTo (flatOrbitRow (c .orbit .orbits)) 6) 0 k h
 
   clock-row : (i k at : ℕ) → i < 23 → k < 5 → at ≡ 48 + 5 * i + k → getD (contentsBytes c) at 0 ≡ getD (flatClockRow (c .clock .clocks) i) k 0
@@ -112,7 +122,7 @@ module _ (c : Contents) where
   orbit-row : (i k at : ℕ) → i < 6 → k < 16 → at ≡ 169 + 16 * i + k → getD (contentsBytes c) at 0 ≡ getD (flatOrbitRow (c .orbit .orbits) i) k 0
   unfolding orbitsBytes
   orbit-row i k at h l e =
-      orbit-byte (6 + (16 * i + k)) at (omega arith)
+      orbit-byte (6 + (16 * i + k)) at (omega arith) (omega arith)
       ∙ right (orbitHead (c .orbit .epoch) (c .orbit .ssr) (c .orbit .count)) (rowsTo (flatOrbitRow (c .orbit .orbits)) 6) 6 (16 * i + k) _ refl refl
       ∙ row-at (flatOrbitRow (c .orbit .orbits)) 16 (λ j. refl) 6 i k h l
 
@@ -233,4 +243,12 @@ module _ (c : Contents) where
     -- THE LAW: the bytes of contents say the contents
     pub contents-back : flatContentsOf (contentsBytes c) ≡ c
     unfolding flatContentsOf
-    contents-back = rw (head-byte 0 (omega arith), mask-same (s .mask), clock-part, orbit-part)
+    contents-back =
+        rw (
+          head-byte 0 (omega arith),
+          mask-same (s .mask),
+          clock-part,
+          orbit-part,
+          bias-part-back (contentsBytes c) (c .bias) bias-byte (s .bias),
+          code-part-back (contentsBytes c) (c .code) code-byte (s .codes),
+        )

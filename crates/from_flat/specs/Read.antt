@@ -1,9 +1,11 @@
--- The C boundary: the contents that 265 bytes say. Numbers are high byte first, those with a sign in two's complement; bytes past the end are 0.
+-- The C boundary: the contents that 516 bytes say. Numbers are high byte first, those with a sign in two's complement; bytes past the end are 0.
 use Prim.Native.Nat.{ℕ, _+_, _*_}
 use mathlib.Core.List.{List}
 use lib.ListN.{getD}
 use Rattle.bits.specs.Bytes.{rowAt}
 use Rattle.bits.specs.Table.{table}
+use Rattle.flat_biases.specs.Biases.{flatBiasesIn}
+use Rattle.flat_biases.specs.Codes.{flatCodesIn}
 use Rattle.lent.specs.Digits.{twoAt, fourAt}
 use Rattle.records.specs.Signed.{signedHalf}
 use Rattle.ura.specs.Ura.{heldUra}
@@ -67,6 +69,7 @@ flatClocksIn s =
 unfoldable pub flatOrbitsIn : List ℕ → OrbitPart
 flatOrbitsIn s = record { epoch = fourAt s 163; ssr = getD s 167 0; count = getD s 168 0; orbits = flatOrbitsAt s }
 
--- contents: type (1), mask part, clock part, orbit part
+-- contents: type (1), mask part, clock part, orbit part; 02, CR 2: bias part, code part
 unfoldable pub flatContentsOf : List ℕ → Contents
-flatContentsOf s = record { kind = getD s 0 0; mask = flatMaskIn s; clock = flatClocksIn s; orbit = flatOrbitsIn s }
+flatContentsOf s =
+    record { kind = getD s 0 0; mask = flatMaskIn s; clock = flatClocksIn s; orbit = flatOrbitsIn s; bias = flatBiasesIn s; code = flatCodesIn s }

@@ -2,29 +2,19 @@
 ghost use mathlib.Core.Path.{_≡_};
 ghost use Prim.Native.Nat.{_<_};
 ghost use Rattle.bits.specs.Bytes.{rowAt};
-ghost use Rattle.records.specs.Signed.{signedHalf};
 ghost use Rattle.from_flat.specs.Read.{flatClockAt, flatClocksAt, flatOrbitAt, flatOrbitsAt, flatMaskIn, flatClocksIn, flatOrbitsIn, flatContentsOf};
 use contents::parts::ClockPart;
 use contents::parts::Contents;
 use contents::parts::MaskPart;
 use contents::parts::OrbitPart;
+use flat_biases::read_bias_part;
+use flat_biases::read_code_part;
+use flat_numbers::signed16;
 use records::clock::Clock;
 use records::clock::blank_clock;
 use records::orbit::Orbit;
 use records::orbit::blank_orbit;
 use ura::held_ura;
-
-// The number with its sign that two bytes say.
-fn signed16(x: u16) -> i16
-    ensures { λ r. ⌜ r ≡ signedHalf 32768 x ⌝ }
-{
-    if x < 32768 {
-        x as i16
-    } else {
-        let d = (65535 - x) as i16;
-        -1 - d
-    }
-}
 
 // The mask's 32 bytes.
 fn read_mask_bytes(t: &[u8]) -> [u8; 32]
@@ -159,10 +149,14 @@ pub fn contents_of(bytes: &[u8]) -> Contents
     let mask = read_mask(bytes);
     let clock = read_clock_part(bytes);
     let orbit = read_orbit_part(bytes);
+    let bias = read_bias_part(bytes);
+    let code = read_code_part(bytes);
     Contents {
         kind,
         mask,
         clock,
         orbit,
+        bias,
+        code,
     }
 }

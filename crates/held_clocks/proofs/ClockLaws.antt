@@ -9,9 +9,10 @@ use lib.ListN.{getD, length}
 use native.Mathlib.Omega.{arith}
 use Rattle.bits.specs.Pick.{pick}
 use Rattle.bits.specs.Bytes.{Kept}
+use Rattle.slots.specs.Slots.{slotNamed}
 use Rattle.lookback.specs.Store.{Named, replaceAll, unplaced}
 use Rattle.lent.specs.Digits.{zigOf}
-use Rattle.lent.proofs.HeldLaws.{replace-room, replaces-room, replaces-view, AllHeld, held-sound, helds-kept}
+use Rattle.lent.proofs.HeldLaws.{replace-named, replace-none, replace-room, replaces-room, replaces-view, AllHeld, held-sound, helds-kept}
 use Rattle.lent.proofs.DropLaws.{drop-room, dropped-view}
 use Rattle.lent.proofs.DigitLaws.{pair-back, quad-back, zag-zig, flag-back}
 use Rattle.held_mask.specs.Size.{size}
@@ -57,6 +58,13 @@ module _ (s : List ℕ) (long : length s ≡ size) where
 module _ (s : List ℕ) where
   pub clock-room : (slot : ℕ) (h : HeldClock) → Kept 36 3096 s (replaceClock s slot h)
   clock-room slot h = replace-room clockReplaces noClock heldClockOf heldClockBytes 12 clock-long s 36 slot h
+
+  -- a slot above 255 is slot 0, and slot 0 is none
+  pub clock-named : (x : ℕ) (h : HeldClock) → replaceClock s (slotNamed x) h ≡ replaceClock s x h
+  clock-named x h = replace-named clockReplaces noClock heldClockOf heldClockBytes 12 clock-long s 36 x h
+
+  pub clock-nowhere : (h : HeldClock) → replaceClock s 0 h ≡ s
+  clock-nowhere h = replace-none clockReplaces noClock heldClockOf heldClockBytes 12 clock-long s 36 h
 
   pub clocks-room : (ns : List (Named HeldClock)) → Kept 36 3096 s (replaceClocks s ns)
   clocks-room ns = replaces-room clockReplaces noClock heldClockOf heldClockBytes 12 clock-long s 36 ns

@@ -19,6 +19,7 @@ use Rattle.bits.proofs.ByteLaws.{store-in, store-out, length-store, kept-trans,
 use Rattle.contents.specs.Parts.{maskBitAt, maskBitsAt, bitsOf}
 use Rattle.contents.specs.declared.parts.MaskPart.{MaskPart}
 use Rattle.mask_bits.specs.Bits.{bitsAt}
+use Rattle.held_mask.specs.Size.{size}
 use Rattle.held_mask.specs.Mask.{HeldMask, noHeldMask, heldMask, sameBits, sameMask, maskAt, putMask}
 
 -- ---- the same is equal
@@ -84,7 +85,7 @@ bit-moved s t i e =
     let r : (32 + i) % 8 ≡ i % 8 = omega arith in
     rw (d, r, e)
 
-module _ (s : List ℕ) (m : MaskPart) (long : length s ≡ 9216) where
+module _ (s : List ℕ) (m : MaskPart) (long : length s ≡ size) where
   bytes-stored : (j : ℕ) → j < 32 → getD (putMask s m) (4 + j) 0 ≡ getD (m .bytes) j 0
   unfolding putMask
   bytes-stored j h =

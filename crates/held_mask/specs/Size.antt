@@ -3,4 +3,4 @@ use Prim.Native.Nat.{ℕ}
 
 -- the bytes of a ledger
 abbrev pub size : ℕ
-size = 9216
+size = 9726

@@ -5,6 +5,9 @@ ghost use Rattle.mask_bits.specs.Bits.{bitsAt};
 ghost use Rattle.held_mask.specs.Mask.{maskAt, heldMask, sameBits, sameMask, putMask};
 use contents::parts::MaskPart;
 
+// How many bytes a ledger is.
+pub const LEDGER_SIZE: usize = 9726;
+
 // Whether a mask is held.
 pub fn has_mask(t: &[u8]) -> bool
     ensures { λ r. ⌜ r ≡ maskAt (now (t .entry)) .has ⌝ }

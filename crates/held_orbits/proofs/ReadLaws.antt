@@ -1,17 +1,19 @@
 -- What the bytes of a slot's orbit say, field by field, as they are read.
-use mathlib.Core.Path.{_≡_}
+use mathlib.Core.Path.{_≡_, refl, sym}
 use mathlib.Core.Logic.{_≢_}
 use Prim.Native.Nat.{ℕ, _+_, _<_}
 use borrow.Author.Needs.{needs}
 use mir.Syntax.{w64}
 use mir.Val.{Fits}
-use mathlib.Core.Bool.{true}
+use mathlib.Core.Bool.{Bool, true, false}
 use mathlib.Core.List.{List}
+use lib.Dec.{eqb}
 use lib.IntN.{ℤ}
 use lib.ListN.{getD}
 use native.Mathlib.Nat.{add-zero, add-assoc}
 use borrow.Author.Tests.{eq-eqb, ne-eqb}
 use Rattle.bits.specs.Bytes.{rowAt}
+use Rattle.bits.specs.Pick.{pick}
 use Rattle.bits.specs.Table.{table}
 use Rattle.lent.specs.Digits.{zagOf, twoAt, fourAt}
 use Rattle.lent.specs.Held.{heldAt}
@@ -31,7 +33,16 @@ orbit-made e s i k r a c u = rw (e, s, i, k, r, a, c, u)
 pub fits-on : {at : ℕ} (k : ℕ) → at < 9216 → k < 100 → Fits w64 (at + k)
 fits-on k h l = search needs
 
+-- whether an orbit is held, by the flag alone
+has-by : (b : Bool) (h : HeldOrbit) → h .has ≡ true → b ≡ pick b h noOrbit .has
+has-by true h e = sym e
+has-by false h e = refl
+
 module _ (s : List ℕ) (slot at : ℕ) where
+  pub orbit-has : at ≡ orbitOffset slot → eqb (getD s at 0) 1 ≡ heldOrbitAt s slot .has
+  unfolding heldAt rowAt table
+  orbit-has e = rw (← e, add-zero at) (has-by (eqb (getD s at 0) 1) _ refl)
+
   pub orbit-none : at ≡ orbitOffset slot → getD s at 0 ≢ 1 → noOrbit ≡ heldOrbitAt s slot
   unfolding heldAt rowAt table
   orbit-none e n = rw (← e, add-zero at, ne-eqb _ _ n)

@@ -1,15 +1,14 @@
--- docs/FORM.md: the orbits that a ledger keeps, as lent bytes: 255 of 24 bytes from byte 3096 on, up to its end. First byte 1 means held; anything else is
--- the absent record.
+-- docs/FORM.md: the orbits that a ledger keeps, as lent bytes: 255 of 24 bytes from byte 3096 on. First byte 1 means held; anything else is the
+-- absent record.
 use Prim.Native.Nat.{ℕ, _/_, _%_}
-use mathlib.Core.Bool.{Bool, true, false}
+use mathlib.Core.Bool.{Bool, true, false, not, _&&_}
 use mathlib.Core.List.{List, [], _∷_}
 use lib.Dec.{eqb}
 use lib.IntN.{pos}
 use lib.ListN.{getD}
 use Rattle.bits.specs.Pick.{pick}
-use Rattle.lookback.specs.Store.{Named}
 use Rattle.lent.specs.Digits.{flagOf, zigOf, zagOf, pairOf, quadOf}
-use Rattle.lent.specs.Held.{offset, heldAt, heldsAt, replaceHeld, replaceHelds, targetOf}
+use Rattle.lent.specs.Held.{offset, heldAt, heldsAt, putHeld, comesIn, replaceHeld, targetOf}
 use Rattle.ura.specs.Ura.{kindOf, quartersIn, heldUra}
 use Rattle.ura.specs.declared.Ura.the-variants.{Unknown}
 use Rattle.newest.specs.Newest.{replaces}
@@ -88,6 +87,14 @@ heldOrbitAt s slot = heldAt heldOrbitOf 24 s 3096 slot
 abbrev pub heldOrbitsAt : List ℕ → List HeldOrbit
 heldOrbitsAt s = heldsAt heldOrbitOf 24 s 3096
 
+-- the bytes with an orbit kept for a slot
+abbrev pub putOrbit : List ℕ → ℕ → HeldOrbit → List ℕ
+putOrbit s slot h = putHeld heldOrbitBytes 24 s 3096 slot h
+
+-- 02, CR 3: an orbit comes into force for a slot: it replaces the one held there now; slot 0 is none
+abbrev pub orbitComes : List ℕ → ℕ → HeldOrbit → Bool
+orbitComes s slot h = not (eqb slot 0) && comesIn orbitReplaces heldOrbitOf 24 s 3096 slot h
+
 -- the bytes with an orbit kept for a slot where it replaces the one held
 abbrev pub replaceOrbit : List ℕ → ℕ → HeldOrbit → List ℕ
 replaceOrbit s slot h = replaceHeld orbitReplaces heldOrbitOf heldOrbitBytes 24 s 3096 slot h
@@ -95,7 +102,3 @@ replaceOrbit s slot h = replaceHeld orbitReplaces heldOrbitOf heldOrbitBytes 24 
 -- where such an orbit is stored
 abbrev pub orbitTarget : List ℕ → ℕ → HeldOrbit → ℕ
 orbitTarget s slot h = targetOf orbitReplaces heldOrbitOf 24 s 3096 slot h
-
--- the bytes with named orbits kept so, one after the other
-abbrev pub replaceOrbits : List ℕ → List (Named HeldOrbit) → List ℕ
-replaceOrbits s ns = replaceHelds orbitReplaces heldOrbitOf heldOrbitBytes 24 s 3096 ns

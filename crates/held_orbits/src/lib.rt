@@ -1,7 +1,7 @@
 // The orbits that a ledger keeps, as lent bytes: docs/FORM.md. Any bytes are such a form; bytes past the end are 0.
 ghost use mathlib.Core.Path.{_≡_};
 ghost use Rattle.bits.specs.Bytes.{storeAt};
-ghost use Rattle.held_orbits.specs.Orbits.{noOrbit, heldOrbitBytes, orbitOffset, orbitReplaces, heldOrbitOf, orbitTarget, heldOrbitAt, replaceOrbit};
+ghost use Rattle.held_orbits.specs.Orbits.{noOrbit, heldOrbitBytes, orbitOffset, orbitReplaces, heldOrbitOf, orbitTarget, heldOrbitAt, orbitComes, replaceOrbit};
 use newest::Stamp;
 use slots::Slot;
 use ura::Ura;
@@ -94,6 +94,13 @@ fn orbit_offset(slot: Slot) -> usize
     }
 }
 
+// Whether an orbit is kept for a slot: its first byte says it.
+pub fn has_orbit(t: &[u8], slot: Slot) -> bool
+    ensures { λ r. ⌜ r ≡ heldOrbitAt (now (t .entry)) (slot .0) .has ⌝ }
+{
+    lent::byte(t, orbit_offset(slot)) == 1
+}
+
 // The orbit kept for a slot.
 pub fn get_orbit(t: &[u8], slot: Slot) -> HeldOrbit
     ensures { λ r. ⌜ r ≡ heldOrbitAt (now (t .entry)) (slot .0) ⌝ }
@@ -165,10 +172,13 @@ fn put_at(t: &mut [u8], at: usize, h: HeldOrbit)
     lent::store(t, at, &b);
 }
 
-// An orbit is kept for a slot where it replaces the one kept there now; slot 0 is none.
-pub fn replace_orbit(t: &mut [u8], slot: Slot, h: HeldOrbit)
-    ensures { λ r. ⌜ now (t .exit) ≡ replaceOrbit (now (t .entry)) (slot .0) h ⌝ }
+// An orbit is kept for a slot where it replaces the one kept there now; slot 0 is none. Answers whether it came into force.
+pub fn replace_orbit(t: &mut [u8], slot: Slot, h: HeldOrbit) -> bool
+    ensures came { λ r. ⌜ r ≡ orbitComes (now (t .entry)) (slot .0) h ⌝ }
+    ensures bytes { λ r. ⌜ now (t .exit) ≡ replaceOrbit (now (t .entry)) (slot .0) h ⌝ }
 {
     let at = orbit_target(t, slot, h);
+    let came = at < t.len();
     put_at(t, at, h);
+    came
 }

@@ -13,23 +13,25 @@ use borrow.Author.Tests.{eqb-true}
 use Rattle.bits.specs.Pick.{pick}
 use Rattle.verdict.proofs.NumberLaws.{number-last}
 use Rattle.frame.specs.Frame.{contentsOf, foreignTo, refusalWith}
-use Rattle.lookback.specs.Store.{naming, getOr, replacing, replaceAll, kept}
-use Rattle.lookback.proofs.ReplaceLaws.{flat, replaceAll-at}
-use Rattle.lookback.proofs.StoreLaws.{LooksBack, store-step, store-idle}
+use Rattle.lookback.specs.Store.{naming, getOr, orElse, replacing, ending, replaceAll, kept}
+use Rattle.lookback.proofs.ReplaceLaws.{flat, arrives, replaceAll-at}
+use Rattle.lookback.proofs.StoreLaws.{LooksBack, slot-step, store-step, store-idle}
 use Rattle.lent.proofs.HeldLaws.{length-helds}
 use Rattle.held_mask.specs.Size.{size}
 use Rattle.held_clocks.specs.Clocks.{noClock, clocksKept, clockReplaces, heldClockOf, heldClocksAt}
-use Rattle.held_orbits.specs.Orbits.{noOrbit, orbitReplaces, heldOrbitOf, heldOrbitsAt}
+use Rattle.held_orbits.specs.Orbits.{noOrbit, orbitReplaces, heldOrbitOf, heldOrbitAt, heldOrbitsAt}
+use Rattle.held_codes.specs.Codes.{noCode, codesKept, heldCodeAt, heldCodesAt}
+use Rattle.held_codes.specs.declared.HeldCode.{HeldCode}
 use Rattle.held_clocks.specs.declared.HeldClock.{HeldClock}
 use Rattle.held_orbits.specs.declared.HeldOrbit.{HeldOrbit}
 use Rattle.held_mask.specs.Mask.{HeldMask, sameMask, maskAt}
 use Rattle.held_mask.proofs.MaskLaws.{mask-eq}
-use Rattle.places.specs.Keeps.{maskOf, orbitsOf, clocksOf, refusalUnder, saysUnder}
-use Rattle.in_force.specs.Back.{maskInForce, refusalAfter, saysAfter, accepted, maskBy, orbitBy, clockBy, orbitInForce, clockBack}
+use Rattle.places.specs.Keeps.{maskOf, orbitsOf, clocksOf, codesOf, refusalUnder, saysUnder}
+use Rattle.in_force.specs.Back.{maskInForce, refusalAfter, saysAfter, accepted, maskBy, orbitBy, clockBy, orbitInForce, clockBack, codeBy, codeMade, codeBack}
 use Rattle.in_force.specs.Bytes.{fresh, takenBytes, takeRefusal, takeSays, takeBytes, runBytes, Holds}
-use Rattle.places.proofs.KeepLaws.{mask-other, mask-kind, mask-clocks, mask-free}
+use Rattle.places.proofs.KeepLaws.{mask-other, mask-kind, mask-orbits, mask-clocks, mask-codes, mask-free}
 use Rattle.places.proofs.OnceLaws.{orbit-once, clock-once}
-use Rattle.in_force.proofs.ViewLaws.{taken-room, taken-mask, taken-orbits, taken-clocks, clock-listed, orbit-listed, fresh-long, fresh-prn, fresh-mask, fresh-clock, fresh-orbit}
+use Rattle.in_force.proofs.ViewLaws.{taken-room, taken-mask, taken-orbits, taken-clocks, taken-code, clock-listed, orbit-listed, code-listed, fresh-long, fresh-prn, fresh-mask, fresh-clock, fresh-orbit, fresh-code}
 
 -- ---- whether a type 1 is accepted depends on no other frame: no mask in force refuses it
 pub mask-alone : (prn : ℕ) (m : HeldMask) (f : List ℕ) → contentsOf f .kind ≡ 1 → refusalUnder prn m f ≡ refusalWith (foreignTo prn f) f
@@ -68,6 +70,32 @@ clocks-back prn = record {
   next = λ ms f h s. refl;
 }
 
+-- ---- how codes are looked back for: the latest to arrive counts
+mask-no-orbit : (prn : ℕ) (h : List (List ℕ)) (f : List ℕ) (m : HeldMask) (s : ℕ) → maskBy prn f ≡ some m → orbitBy prn h f s ≡ none
+unfolding orbitBy naming
+mask-no-orbit prn h f m s e = rw (mask-orbits (contentsOf f) (by-kind prn f m e)) (flat (accepted prn h f) none)
+
+mask-no-code : (prn : ℕ) (h : List (List ℕ)) (f : List ℕ) (m : HeldMask) (s : ℕ) → maskBy prn f ≡ some m → codeMade prn h f s ≡ none
+unfolding codeMade codeBy naming
+mask-no-code prn h f m s e =
+    rw (mask-no-orbit prn h f m s e, mask-codes (contentsOf f) (by-kind prn f m e) (maskInForce prn h), flat {A = Option HeldCode} (accepted prn h f) none)
+    (flat (orbitInForce prn h s .has) none)
+
+codes-back : (prn : ℕ) → LooksBack codesKept sameMask (λ d r. true) (maskBy prn) (maskInForce prn) (codeMade prn) (codeBack prn)
+unfolding maskInForce codeBack
+codes-back prn = record {
+  same-eq = mask-eq;
+  mask-next = λ f h. refl;
+  quiet = mask-no-code prn;
+  start = λ ms s. refl;
+  next = λ ms f h s. rw (arrives (codeBack prn [] h s) (codeMade prn h f s));
+}
+
+-- a frame that is not accepted makes nothing of a code
+refused-no-code : (prn : ℕ) (h : List (List ℕ)) (f : List ℕ) (s : ℕ) → accepted prn h f ≡ false → codeMade prn h f s ≡ none
+unfolding codeMade codeBy orbitBy
+refused-no-code prn h f s a = rw a (flat (orbitInForce prn h s .has) none)
+
 -- ---- one frame more
 module _ (s : List ℕ) (prn : ℕ) (h : List (List ℕ)) (f : List ℕ) (H : Holds s prn h) where
   pub refusal-step : takeRefusal s f ≡ refusalAfter prn h f
@@ -97,6 +125,27 @@ module _ (s : List ℕ) (prn : ℕ) (h : List (List ℕ)) (f : List ℕ) (H : Ho
       ∙ ap (λ (o : Option HeldMask). getD (replaceAll clockReplaces noClock (kept clocksKept sameMask o (maskInForce prn h) (heldClocksAt s)) ns) (slot - 1) noClock) (taken-on a)
       ∙ store-step (clocks-back prn) f h (heldClocksAt s) ns slot p (omega (arith, length-helds heldClockOf 12 s 36)) (clock-once prn (maskInForce prn h) f (eqb-true _ _ a) slot p) (sym (clock-listed s slot p q) ∙ H .clock slot p q) (rw a)
 
+  step-code : accepted prn h f ≡ true → (slot : ℕ) → 1 ≤ slot → slot ≤ 255 → heldCodeAt (takenBytes s (contentsOf f)) slot ≡ codeBack prn [] (f ∷ h) slot
+  unfolding codeMade codeBy orbitBy
+  step-code a slot p q =
+      let c = contentsOf f in
+      let os = orbitsOf (c .kind) (c .orbit) in
+      let cs = codesOf (maskInForce prn h) (c .kind) (c .code) in
+      let xs = heldCodesAt s in
+      let left = getD (kept codesKept sameMask (maskBy prn f) (maskInForce prn h) xs) (slot - 1) noCode in
+      taken-code s c (H .long) slot p q (orbit-once prn (maskInForce prn h) f (eqb-true _ _ a) slot p)
+      ∙ ap (λ (m : HeldMask). getOr (orElse (ending noCode (replacing orbitReplaces (heldOrbitAt s slot) (naming slot os))) (pick (heldOrbitAt s slot .has) (naming slot (codesOf m (c .kind) (c .code))) none)) (getD (kept codesKept sameMask (maskOf c) m xs) (slot - 1) noCode)) (H .mask)
+      ∙ ap (λ (o : HeldOrbit). getOr (orElse (ending noCode (replacing orbitReplaces o (naming slot os))) (pick (o .has) (naming slot cs) none)) (getD (kept codesKept sameMask (maskOf c) (maskInForce prn h) xs) (slot - 1) noCode)) (H .orbit slot p q)
+      ∙ ap (λ (m : Option HeldMask). getOr (orElse (ending noCode (replacing orbitReplaces (orbitInForce prn h slot) (naming slot os))) (pick (orbitInForce prn h slot .has) (naming slot cs) none)) (getD (kept codesKept sameMask m (maskInForce prn h) xs) (slot - 1) noCode)) (taken-on a)
+      ∙ ap (λ (o : Option HeldCode). getOr o left) (made a slot)
+      ∙ ap (λ (o : Option HeldCode). getOr o left) (sym (arrives left (codeMade prn h f slot)))
+      ∙ slot-step (codes-back prn) f h xs slot (sym (code-listed s slot p q) ∙ H .code slot p q)
+    where
+      made : accepted prn h f ≡ true → (slot : ℕ) →
+          orElse (ending noCode (replacing orbitReplaces (orbitInForce prn h slot) (naming slot (orbitsOf (contentsOf f .kind) (contentsOf f .orbit)))))
+          (pick (orbitInForce prn h slot .has) (naming slot (codesOf (maskInForce prn h) (contentsOf f .kind) (contentsOf f .code))) none) ≡ codeMade prn h f slot
+      made a slot = rw a
+
   step-taken : accepted prn h f ≡ true → Holds (takenBytes s (contentsOf f)) prn (f ∷ h)
   unfolding maskInForce
   step-taken a =
@@ -108,6 +157,7 @@ module _ (s : List ℕ) (prn : ℕ) (h : List (List ℕ)) (f : List ℕ) (H : Ho
         mask = taken-mask s c (H .long) ∙ ap (getOr (maskOf c)) (H .mask) ∙ ap (λ (o : Option HeldMask). getOr o (maskInForce prn h)) (taken-on a);
         orbit = λ slot p q. orbit-listed (takenBytes s c) slot p q ∙ step-orbit a slot p q;
         clock = λ slot p q. clock-listed (takenBytes s c) slot p q ∙ step-clock a slot p q;
+        code = step-code a;
       }
 
   step-refused : accepted prn h f ≡ false → Holds s prn (f ∷ h)
@@ -120,6 +170,7 @@ module _ (s : List ℕ) (prn : ℕ) (h : List (List ℕ)) (f : List ℕ) (H : Ho
         mask = H .mask ∙ rw e;
         orbit = λ slot p q. H .orbit slot p q ∙ rw a;
         clock = λ slot p q. H .clock slot p q ∙ sym (store-idle (clocks-back prn) f h slot e (rw a));
+        code = λ slot p q. H .code slot p q ∙ sym (store-idle (codes-back prn) f h slot e (refused-no-code prn h f slot a));
       }
 
   pub holds-step : Holds (takeBytes s f) prn (f ∷ h)
@@ -132,13 +183,14 @@ module _ (s : List ℕ) (prn : ℕ) (h : List (List ℕ)) (f : List ℕ) (H : Ho
 
 -- ---- demand 3
 pub holds-run : (s : List ℕ) (prn : ℕ) (h : List (List ℕ)) → length s ≡ size → Holds (runBytes (fresh s prn) h) prn h
-unfolding runBytes maskInForce orbitInForce clockBack
+unfolding runBytes maskInForce orbitInForce clockBack codeBack
 holds-run s prn [] long = record {
   long = fresh-long s prn ∙ long;
   own = fresh-prn s prn (omega arith);
   mask = fresh-mask s prn;
   orbit = fresh-orbit s prn;
   clock = fresh-clock s prn;
+  code = fresh-code s prn;
 }
 holds-run s prn (f ∷ h) long = holds-step (runBytes (fresh s prn) h) prn h f (holds-run s prn h long)
 

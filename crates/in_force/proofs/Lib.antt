@@ -1,4 +1,5 @@
 pub mod ApartLaws
+pub mod KeptLaws
 pub mod ViewLaws
 pub mod BackLaws
 pub mod RefusalLaws

@@ -6,19 +6,17 @@ use mathlib.Core.List.{List, [], _∷_}
 use native.Mathlib.Decide.{ℕ-discrete}
 use native.Mathlib.Omega.{arith}
 use borrow.Author.Tests.{eq-eqb, ne-eqb}
-use Rattle.judge.specs.Judge.{refusalOf}
+use Rattle.judge.specs.Judge.{refusalAt}
 use Rattle.verdict.specs.Verdict.{numberIn, refusedBy}
 use Rattle.verdict.proofs.NumberLaws.{number-back}
 use Rattle.frame.specs.Frame.{contentsOf, foreignTo, shellRefusal, refusalWith, frameSays, shellFor}
 use Rattle.frame.proofs.FrameLaws.{leading, second}
 use Rattle.frame.proofs.VerdictLaws.{told-alone, frame-number, contents-not-6, frame-not-19}
-use Rattle.held_orbits.specs.Orbits.{heldOrbitsAt, replaceOrbits}
-use Rattle.held_clocks.specs.Clocks.{replaceClocks}
+use Rattle.held_orbits.specs.Orbits.{heldOrbitsAt}
 use Rattle.held_mask.specs.Mask.{HeldMask, maskAt}
-use Rattle.places.specs.Keeps.{orbitsOf, clocksOf, maskRefusal, placeSays, refusalUnder, saysUnder}
-use Rattle.in_force.specs.Bytes.{prnAt, maskBytes, takenBytes, takeRefusal, takeSays, takeBytes}
-use Rattle.places.proofs.KeepLaws.{mask-free, place-own}
-use Rattle.in_force.proofs.ViewLaws.{taken-1, taken-other}
+use Rattle.places.specs.Keeps.{maskRefusal, placeSays, refusalUnder, saysUnder}
+use Rattle.in_force.specs.Bytes.{prnAt, takenBytes, takeRefusal, takeSays, takeBytes}
+use Rattle.places.proofs.KeepLaws.{refusal-own}
 
 module _ (s f : List ℕ) where
   -- a refusal leaves every byte as it was
@@ -35,7 +33,7 @@ module _ (s f : List ℕ) where
   unfolding refusalUnder
   frame-refusal n = leading (refusalWith (foreignTo (prnAt s) f) f) (maskRefusal (maskAt s) (contentsOf f)) n
 
-  -- where nothing is, it answers 14, 15 or 19 of the clock part
+  -- where nothing is, it answers 14, 15 or 19 of the clock part, or of a type 5
   pub clock-refusal : refusalWith (foreignTo (prnAt s) f) f ≡ 0 → takeRefusal s f ≡ maskRefusal (maskAt s) (contentsOf f)
   unfolding refusalUnder
   clock-refusal e = second (refusalWith (foreignTo (prnAt s) f) f) (maskRefusal (maskAt s) (contentsOf f)) e
@@ -45,10 +43,15 @@ module _ (s f : List ℕ) where
   orbits-refused e n = ap heldOrbitsAt (refused-same (λ z. n (rw (clock-refusal e) at z)))
 
 -- ---- what is said of a number, and the number in it
--- of clocks by place
+-- of what comes by place
 pub place-number : (m : HeldMask) (n : ℕ) → numberIn (placeSays m n) ≡ n
 unfolding placeSays
 place-number m n = dite (ℕ-discrete n 19) (λ e. rw (eq-eqb n 19 e) (sym e)) (λ e. rw (ne-eqb n 19 e) (number-back n))
+
+-- a number that gives no more than itself
+pub plain-says : (m : HeldMask) (n : ℕ) → n ≢ 0 → n ≢ 19 → n ∷ [] ≡ placeSays m n
+unfolding placeSays
+plain-says m n z e = rw (ne-eqb n 19 e, ne-eqb n 0 z)
 
 -- what is said of a number that reading the frame gives, whatever the mask
 pub under-frame : (m : HeldMask) (f : List ℕ) (n : ℕ) → n ≢ 19 → saysUnder m f n ≡ frameSays f n
@@ -89,7 +92,7 @@ module _ (s f : List ℕ) where
   unfolding refusalWith shell
   way-shut v e n =
       let some : shell ≢ 0 = λ a. n (ap numberIn e ∙ frame-number f shell ∙ a) in
-      let same = leading shell (refusalOf (contentsOf f)) some in
+      let same = leading shell (refusalAt f 28) some in
       let w = frame-said (λ y. some (sym same ∙ y)) in
       (e ∙ ap (frameSays f) (sym same) ∙ w .0, w .1)
 
@@ -97,28 +100,28 @@ module _ (s f : List ℕ) where
   pub way-open : (v : List ℕ) → v ≡ shellFor (prnAt s) f → numberIn v ≡ 0 → shellRefusal (foreignTo (prnAt s) f) f ≡ 0
   way-open v e n = sym (frame-number f (shellRefusal (foreignTo (prnAt s) f) f)) ∙ ap numberIn (sym e) ∙ n
 
-  module _ (sound : shellRefusal (foreignTo (prnAt s) f) f ≡ 0) (n : ℕ) (judged : n ≡ refusalOf (contentsOf f)) where
+  module _ (sound : shellRefusal (foreignTo (prnAt s) f) f ≡ 0) (n : ℕ) (judged : n ≡ refusalAt f 28) where
     frame-judged : refusalWith (foreignTo (prnAt s) f) f ≡ n
     unfolding refusalWith
-    frame-judged = second (shellRefusal (foreignTo (prnAt s) f) f) (refusalOf (contentsOf f)) sound ∙ sym judged
+    frame-judged = second (shellRefusal (foreignTo (prnAt s) f) f) (refusalAt f 28) sound ∙ sym judged
 
     -- its contents are refused
     pub way-judged : n ≢ 0 → (n ∷ [] ≡ takeSays s f) × (s ≡ takeBytes s f)
     way-judged z =
         let w = frame-said (λ y. z (sym frame-judged ∙ y)) in
         let alone : refusedBy n ≡ n ∷ [] = rw (ne-eqb n 0 z) in
-        (sym alone ∙ sym (told-alone f n (λ six. contents-not-6 (contentsOf f) (sym judged ∙ six))) ∙ ap (frameSays f) (sym frame-judged) ∙ w .0, w .1)
+        (sym alone ∙ sym (told-alone f n (λ six. contents-not-6 f 28 (sym judged ∙ six))) ∙ ap (frameSays f) (sym frame-judged) ∙ w .0, w .1)
 
     -- they are not: what the mask says is what the ledger answers
     good : n ≡ 0 → takeRefusal s f ≡ maskRefusal (maskAt s) (contentsOf f)
     good z = clock-refusal s f (frame-judged ∙ z)
 
-    -- a type 1 is taken
-    pub way-taken-1 : n ≡ 0 → contentsOf f .kind ≡ 1 → (t : List ℕ) → t ≡ maskBytes s (contentsOf f .mask) → ([] ≡ takeSays s f) × (t ≡ takeBytes s f)
+    -- contents that need no mask are taken
+    pub way-free : n ≡ 0 → maskRefusal (maskAt s) (contentsOf f) ≡ 0 → (t : List ℕ) → t ≡ takenBytes s (contentsOf f) → ([] ≡ takeSays s f) × (t ≡ takeBytes s f)
     unfolding placeSays saysUnder
-    way-taken-1 z k t b =
-        let none = good z ∙ mask-free (contentsOf f) k (maskAt s) in
-        (ap (saysUnder (maskAt s) f) (sym none), b ∙ sym (taken-1 s (contentsOf f) k) ∙ sym (taken-whole s f none))
+    way-free z free t b =
+        let none = good z ∙ free in
+        (ap (saysUnder (maskAt s) f) (sym none), b ∙ sym (taken-whole s f none))
 
     module _ (z : n ≡ 0) (p : List ℕ) (q : p ≡ placeSays (maskAt s) (maskRefusal (maskAt s) (contentsOf f))) where
       number-placed : numberIn p ≡ maskRefusal (maskAt s) (contentsOf f)
@@ -127,22 +130,17 @@ module _ (s f : List ℕ) where
       told : p ≡ takeSays s f
       told =
           q
-          ∙ sym (under-mask (maskAt s) f (maskRefusal (maskAt s) (contentsOf f)) (place-own (maskAt s) (contentsOf f .kind) (contentsOf f .clock)))
+          ∙ sym (under-mask (maskAt s) f (maskRefusal (maskAt s) (contentsOf f)) (refusal-own (maskAt s) (contentsOf f)))
           ∙ ap (saysUnder (maskAt s) f) (sym (good z))
 
-      -- its clock part is refused
+      -- what comes by place is refused
       pub way-refused : numberIn p ≢ 0 → (p ≡ takeSays s f) × (s ≡ takeBytes s f)
       way-refused y = (told, sym (refused-same s f (λ x. y (number-placed ∙ sym (good z) ∙ x))))
 
-      -- its clock part is not refused
-      pub way-placed : numberIn p ≡ 0 → maskRefusal (maskAt s) (contentsOf f) ≡ 0
-      way-placed y = sym number-placed ∙ y
-
-      -- taken
-      pub way-taken : numberIn p ≡ 0 → contentsOf f .kind ≢ 1 → (t : List ℕ) →
-          t ≡ replaceOrbits (replaceClocks s (clocksOf (maskAt s) (contentsOf f .kind) (contentsOf f .clock))) (orbitsOf (contentsOf f .kind) (contentsOf f .orbit)) →
-          ([] ≡ takeSays s f) × (t ≡ takeBytes s f)
+      -- it is not: the contents are taken
+      pub way-taken : numberIn p ≡ 0 → (t : List ℕ) → t ≡ takenBytes s (contentsOf f) → ([] ≡ takeSays s f) × (t ≡ takeBytes s f)
       unfolding placeSays
-      way-taken y k t b =
-          let taken : p ≡ [] = q ∙ ap (placeSays (maskAt s)) (way-placed y) in
-          (sym taken ∙ told, b ∙ sym (taken-other s (contentsOf f) k) ∙ sym (taken-whole s f (good z ∙ way-placed y)))
+      way-taken y t b =
+          let free : maskRefusal (maskAt s) (contentsOf f) ≡ 0 = sym number-placed ∙ y in
+          let taken : p ≡ [] = q ∙ ap (placeSays (maskAt s)) free in
+          (sym taken ∙ told, b ∙ sym (taken-whole s f (good z ∙ free)))

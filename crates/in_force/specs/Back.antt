@@ -6,13 +6,15 @@ use mathlib.Core.Option.{Option, none}
 use lib.Dec.{eqb}
 use Rattle.bits.specs.Pick.{pick}
 use Rattle.frame.specs.Frame.{contentsOf, foreignTo, refusalWith}
-use Rattle.lookback.specs.Store.{naming, getOr, replacing, standingOr, since}
+use Rattle.lookback.specs.Store.{naming, getOr, orElse, replacing, ending, standingOr, since}
 use Rattle.held_clocks.specs.Clocks.{noClock, clocksKept, clockReplaces}
 use Rattle.held_orbits.specs.Orbits.{noOrbit, orbitReplaces}
+use Rattle.held_codes.specs.Codes.{noCode, codesKept}
 use Rattle.held_clocks.specs.declared.HeldClock.{HeldClock}
 use Rattle.held_orbits.specs.declared.HeldOrbit.{HeldOrbit}
+use Rattle.held_codes.specs.declared.HeldCode.{HeldCode}
 use Rattle.held_mask.specs.Mask.{HeldMask, noHeldMask, sameMask}
-use Rattle.places.specs.Keeps.{maskOf, orbitsOf, clocksOf, refusalUnder, saysUnder}
+use Rattle.places.specs.Keeps.{maskOf, orbitsOf, clocksOf, codesOf, refusalUnder, saysUnder}
 
 -- 01, What the ledger keeps: the mask that f brings, where it is an accepted type 1; that depends on no other frame
 unfoldable pub maskBy : ℕ → List ℕ → Option HeldMask
@@ -59,3 +61,24 @@ clockBack prn ms (f ∷ h) s =
 -- 01, Clock in force for a slot, after the frames h
 abbrev pub clockInForce : ℕ → List (List ℕ) → ℕ → HeldClock
 clockInForce prn h s = clockBack prn [] h s
+
+-- 02, CR 2: the URA code of f that names the slot by its place in the mask in force, where f is accepted
+unfoldable pub codeBy : ℕ → List (List ℕ) → List ℕ → ℕ → Option HeldCode
+codeBy prn h f s = pick (accepted prn h f) (naming s (codesOf (maskInForce prn h) (contentsOf f .kind) (contentsOf f .code))) none
+
+-- 02, CR 2: what f makes of the slot's code: none where another orbit record comes into force, which one that 02, CR 3, holds off does not; else
+-- the code that f has for the slot, if an orbit is in force
+unfoldable pub codeMade : ℕ → List (List ℕ) → List ℕ → ℕ → Option HeldCode
+codeMade prn h f s =
+    orElse (ending noCode (replacing orbitReplaces (orbitInForce prn h s) (orbitBy prn h f s)))
+    (pick (orbitInForce prn h s .has) (codeBy prn h f s) none)
+
+-- 02, CR 2: the code that replaces that of the orbit in force, the latest to arrive; none if any mask accepted after it differs from the mask it was
+-- placed by, as for clocks. ms are the masks accepted after the frames looked at, oldest first
+unfoldable pub codeBack : ℕ → List HeldMask → List (List ℕ) → ℕ → HeldCode
+codeBack prn ms [] s = noCode
+codeBack prn ms (f ∷ h) s = standingOr codesKept sameMask (codeMade prn h f s) (maskInForce prn h) ms (codeBack prn (since (maskBy prn f) ms) h s)
+
+-- 02, CR 2: the code in force for a slot, after the frames h
+abbrev pub codeInForce : ℕ → List (List ℕ) → ℕ → HeldCode
+codeInForce prn h s = codeBack prn [] h s

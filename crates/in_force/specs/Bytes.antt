@@ -1,4 +1,4 @@
--- docs/FORM.md: what a ledger's lent bytes become. Every byte string of 9216 bytes is a ledger.
+-- docs/FORM.md: what a ledger's lent bytes become. Every byte string of a ledger's length is a ledger.
 use Prim.Native.Nat.{ℕ, zero, suc, _+_, _*_, _/_, _≤_}
 use mathlib.Core.Path.{_≡_}
 use mathlib.Core.Bool.{true, false}
@@ -9,13 +9,17 @@ use Rattle.bits.specs.Pick.{pick}
 use Rattle.contents.specs.declared.parts.MaskPart.{MaskPart}
 use Rattle.contents.specs.declared.parts.Contents.{Contents}
 use Rattle.frame.specs.Frame.{contentsOf}
+use Rattle.lookback.specs.Store.{Named, inOrder}
 use Rattle.held_mask.specs.Size.{size}
 use Rattle.held_clocks.specs.Clocks.{heldClockAt, replaceClocks, droppedClocks}
-use Rattle.held_orbits.specs.Orbits.{heldOrbitAt, replaceOrbits}
+use Rattle.held_orbits.specs.Orbits.{heldOrbitAt, putOrbit, orbitComes}
+use Rattle.held_codes.specs.Codes.{heldCodeAt, putCode, dropCode, clearedCodes}
+use Rattle.held_orbits.specs.declared.HeldOrbit.{HeldOrbit}
+use Rattle.held_codes.specs.declared.HeldCode.{HeldCode}
 use Rattle.held_mask.specs.Mask.{heldMask, sameMask, maskAt, putMask}
 use Rattle.frame.specs.Frame.{isPrn}
-use Rattle.places.specs.Keeps.{orbitsOf, clocksOf, refusalUnder, saysUnder}
-use Rattle.in_force.specs.Back.{maskInForce, orbitInForce, clockInForce}
+use Rattle.places.specs.Keeps.{orbitsOf, clocksOf, codesOf, refusalUnder, saysUnder}
+use Rattle.in_force.specs.Back.{maskInForce, orbitInForce, clockInForce, codeInForce}
 
 -- FORM: the PRN that the ledger is for
 abbrev pub prnAt : List ℕ → ℕ
@@ -25,15 +29,33 @@ prnAt s = getD s 0 0
 unfoldable pub fresh : List ℕ → ℕ → List ℕ
 fresh s prn = set (replicate (length s) 0) 0 prn
 
--- 01, Clock in force: a mask taken; if it differs from the one held, clocks that came by place go
+-- 01, Clock in force, and 02, CR 2: a mask taken; if it differs from the one held, clocks that came by place go, and so do all codes
 unfoldable pub maskBytes : List ℕ → MaskPart → List ℕ
-maskBytes s m = putMask (pick (sameMask (maskAt s) (heldMask m)) s (droppedClocks s 255)) m
+maskBytes s m = putMask (pick (sameMask (maskAt s) (heldMask m)) s (clearedCodes (droppedClocks s 255))) m
 
--- contents taken: a type 1's mask, or else clocks and orbits, each where it replaces the one held
+-- 02, CR 2: a code kept for a slot, where an orbit is held for it
+unfoldable pub keptCode : List ℕ → ℕ → HeldCode → List ℕ
+keptCode s slot h = pick (heldOrbitAt s slot .has) (putCode s slot h) s
+
+-- named codes, one after the other
+abbrev pub keptCodes : List ℕ → List (Named HeldCode) → List ℕ
+keptCodes s ns = inOrder keptCode s ns
+
+-- 02, CR 3: an orbit kept for a slot, where it replaces the one held; 02, CR 2: the slot then has no code any more
+unfoldable pub keptOrbit : List ℕ → ℕ → HeldOrbit → List ℕ
+keptOrbit s slot h = pick (orbitComes s slot h) (dropCode (putOrbit s slot h) slot) s
+
+-- named orbits, one after the other
+abbrev pub keptOrbits : List ℕ → List (Named HeldOrbit) → List ℕ
+keptOrbits s ns = inOrder keptOrbit s ns
+
+-- contents taken: a type 1's mask, or else codes, clocks and orbits; those of a type 3 change nothing
 unfoldable pub takenBytes : List ℕ → Contents → List ℕ
 takenBytes s c =
     pick (eqb (c .kind) 1) (maskBytes s (c .mask))
-    (replaceOrbits (replaceClocks s (clocksOf (maskAt s) (c .kind) (c .clock))) (orbitsOf (c .kind) (c .orbit)))
+    (keptOrbits
+    (replaceClocks (keptCodes s (codesOf (maskAt s) (c .kind) (c .code))) (clocksOf (maskAt s) (c .kind) (c .clock)))
+    (orbitsOf (c .kind) (c .orbit)))
 
 -- the refusal that a ledger gives a frame, 0 if it is taken
 abbrev pub takeRefusal : List ℕ → List ℕ → ℕ
@@ -59,6 +81,7 @@ pub record Holds (s : List ℕ) (prn : ℕ) (h : List (List ℕ)) : Type 0 where
   pub mask : maskAt s ≡ maskInForce prn h
   pub orbit : (slot : ℕ) → 1 ≤ slot → slot ≤ 255 → heldOrbitAt s slot ≡ orbitInForce prn h slot
   pub clock : (slot : ℕ) → 1 ≤ slot → slot ≤ 255 → heldClockAt s slot ≡ clockInForce prn h slot
+  pub code : (slot : ℕ) → 1 ≤ slot → slot ≤ 255 → heldCodeAt s slot ≡ codeInForce prn h slot
 
 -- frame i of a log, from 0: a piece of 125 bytes; what is left at the end is a shorter one
 abbrev pub frameAt : List ℕ → ℕ → List ℕ

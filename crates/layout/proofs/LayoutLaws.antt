@@ -100,3 +100,17 @@ layout-held kind numc numo =
     (pick-all Held (eqb kind 7) _ _
     (λ h. (⊎-elim (λ e. omega arith) (λ l. omega arith) (part-bits numc (23 + 27 * numc) 448 (omega arith)), orbits-held numo (omega arith)))
     (λ h. (omega arith, omega arith))))))
+
+-- a layout of other counts is the same, where the type has no counts
+abbrev pub Counts : ℕ → ℕ → Layout → Type 0
+Counts a b l = l .head ≡ 14 → (a ≡ l .clocks) × (b ≡ l .orbits)
+
+pub layout-same : (kind a b numc numo : ℕ) → Counts a b (layoutOf kind numc numo) → layoutOf kind a b ≡ layoutOf kind numc numo
+unfolding layoutOf
+layout-same kind a b numc numo h =
+    dite (ℕ-discrete kind 6)
+    (λ e. let q = (rw e at h) refl in rw (e, q .0, q .1))
+    (λ n.
+    dite (ℕ-discrete kind 7)
+    (λ e. let q = (rw e at h) refl in rw (e, q .0, q .1))
+    (λ m. rw (ne-eqb kind 6 n, ne-eqb kind 7 m)))

@@ -3,5 +3,7 @@ pub mod open;
 pub mod replay;
 pub mod take;
 
+use held_mask::LEDGER_SIZE;
+
 // The lent bytes of a ledger; docs/FORM.md says what they hold. Zero bytes hold nothing.
-pub type Ledger = [u8; 9216];
+pub type Ledger = [u8; LEDGER_SIZE];

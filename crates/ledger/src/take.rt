@@ -5,15 +5,22 @@ ghost use Rattle.verdict.specs.Verdict.{says};
 ghost use Rattle.frame.specs.Frame.{contentsOf, foreignTo, shellRefusal};
 ghost use Rattle.in_force.specs.Bytes.{prnAt, takeSays, takeBytes};
 use crate::Ledger;
+use contents::read::biases_of;
 use contents::read::clocks_of;
+use contents::read::codes_of;
+use contents::read::end_at;
 use contents::read::kind_of;
 use contents::read::mask_of;
 use contents::read::orbits_of;
+use judge::refusal_of_biases;
+use judge::refusal_of_codes;
 use judge::refusal_of_mask;
 use judge::refusal_of_parts;
 use keeping::take_clocks;
+use keeping::take_codes;
 use keeping::take_mask;
 use keeping::take_orbits;
+use places::code_refusal;
 use places::place_verdict;
 use verdict::Verdict;
 use verdict::number_of;
@@ -40,9 +47,42 @@ fn take_type_1(t: &mut [u8], frame: &[u8]) -> Verdict
     Verdict::Taken
 }
 
+// What is said of a type 3 in a good frame, which leaves a ledger as it was.
+fn type_3_verdict(t: &[u8], frame: &[u8]) -> Verdict
+    requires { ⌜ (shellRefusal (foreignTo (prnAt (now t)) (now frame)) (now frame) ≡ 0) × (contentsOf (now frame) .kind ≡ 3) ⌝ }
+    ensures verdict { λ r. ⌜ says r ≡ takeSays (now (t .entry)) (now (frame .entry)) ⌝ }
+    ensures bytes { λ r. ⌜ now (t .entry) ≡ takeBytes (now (t .entry)) (now (frame .entry)) ⌝ }
+{
+    let b = biases_of(frame, 28);
+    let n = refusal_of_biases(end_at(frame, 28), b);
+    if n != 0 {
+        return Verdict::Refused(n);
+    }
+    Verdict::Taken
+}
+
+// A type 5 in a good frame is taken, or refused.
+fn take_type_5(t: &mut [u8], frame: &[u8]) -> Verdict
+    requires { ⌜ (shellRefusal (foreignTo (prnAt (now t)) (now frame)) (now frame) ≡ 0) × (contentsOf (now frame) .kind ≡ 5) ⌝ }
+    ensures verdict { λ r. ⌜ says r ≡ takeSays (now (t .entry)) (now (frame .entry)) ⌝ }
+    ensures bytes { λ r. ⌜ now (t .exit) ≡ takeBytes (now (t .entry)) (now (frame .entry)) ⌝ }
+{
+    let u = codes_of(frame, 28);
+    let n = refusal_of_codes(u);
+    if n != 0 {
+        return Verdict::Refused(n);
+    }
+    let placed = code_refusal(t, u);
+    if placed != 0 {
+        return Verdict::Refused(placed);
+    }
+    take_codes(t, u);
+    Verdict::Taken
+}
+
 // A message of another type in a good frame is taken, or refused.
 fn take_parts(t: &mut [u8], frame: &[u8]) -> Verdict
-    requires { ⌜ (shellRefusal (foreignTo (prnAt (now t)) (now frame)) (now frame) ≡ 0) × (contentsOf (now frame) .kind ≢ 1) ⌝ }
+    requires { ⌜ (shellRefusal (foreignTo (prnAt (now t)) (now frame)) (now frame) ≡ 0) × (contentsOf (now frame) .kind ≢ 1) × (contentsOf (now frame) .kind ≢ 3) × (contentsOf (now frame) .kind ≢ 5) ⌝ }
     ensures verdict { λ r. ⌜ says r ≡ takeSays (now (t .entry)) (now (frame .entry)) ⌝ }
     ensures bytes { λ r. ⌜ now (t .exit) ≡ takeBytes (now (t .entry)) (now (frame .entry)) ⌝ }
 {
@@ -62,6 +102,25 @@ fn take_parts(t: &mut [u8], frame: &[u8]) -> Verdict
     Verdict::Taken
 }
 
+// A message in a good frame is taken, or refused.
+fn take_message(t: &mut [u8], frame: &[u8]) -> Verdict
+    requires { ⌜ shellRefusal (foreignTo (prnAt (now t)) (now frame)) (now frame) ≡ 0 ⌝ }
+    ensures verdict { λ r. ⌜ says r ≡ takeSays (now (t .entry)) (now (frame .entry)) ⌝ }
+    ensures bytes { λ r. ⌜ now (t .exit) ≡ takeBytes (now (t .entry)) (now (frame .entry)) ⌝ }
+{
+    let kind = kind_of(frame, 28);
+    if kind == 1 {
+        return take_type_1(t, frame);
+    }
+    if kind == 3 {
+        return type_3_verdict(t, frame);
+    }
+    if kind == 5 {
+        return take_type_5(t, frame);
+    }
+    take_parts(t, frame)
+}
+
 // A frame is taken into the bytes of a ledger, or refused.
 pub fn take_in(t: &mut [u8], frame: &[u8]) -> Verdict
     ensures verdict { λ r. ⌜ says r ≡ takeSays (now (t .entry)) (now (frame .entry)) ⌝ }
@@ -71,10 +130,7 @@ pub fn take_in(t: &mut [u8], frame: &[u8]) -> Verdict
     if number_of(shell) != 0 {
         return shell;
     }
-    if kind_of(frame, 28) == 1 {
-        return take_type_1(t, frame);
-    }
-    take_parts(t, frame)
+    take_message(t, frame)
 }
 
 // A frame is taken into a ledger: refusals 1, 3 to 12, 14, 15 and 19, lowest first. On a refusal every byte is as it was.

@@ -2,9 +2,9 @@
 use mathlib.Core.Path.{_≡_, refl, sym, ap, _∙_}
 use mathlib.Core.Logic.{_⊎_, inl, inr, ⊎-elim, dite, _≢_}
 use Prim.Native.Nat.{ℕ, suc, _+_, _-_, _*_, _≤_, _<_}
-use mathlib.Core.Bool.{Bool, true, false, _&&_}
+use mathlib.Core.Bool.{Bool, true, false, not, _&&_}
 use mathlib.Core.List.{List, [], _∷_}
-use lib.Dec.{ltb}
+use lib.Dec.{eqb, ltb}
 use lib.ListN.{getD, length}
 use lib.Seq.{set-out}
 use native.Mathlib.Nat.{mul-suc, mul-le-mul-left}
@@ -15,9 +15,9 @@ use Rattle.bits.specs.Pick.{pick}
 use Rattle.bits.specs.Bytes.{storeAt, rowAt, Kept}
 use Rattle.bits.proofs.TableLaws.{table-set, table-ext, length-table, getD-table}
 use Rattle.bits.proofs.ByteLaws.{row-store, row-kept, kept-same, kept-trans, kept-wide, kept-store}
-use Rattle.lookback.specs.Store.{Named, put, replace, replaceAll}
+use Rattle.lookback.specs.Store.{Named, put, replace, replaceAll, inOrder}
 use Rattle.lookback.proofs.ReplaceLaws.{flat}
-use Rattle.lent.specs.Held.{offset, heldAt, heldsAt, putHeld, hasRoom, replaceHeld, replaceHelds, targetOf}
+use Rattle.lent.specs.Held.{offset, heldAt, heldsAt, putHeld, comesIn, replaceHeld, replaceHelds, targetOf}
 use Rattle.lent.proofs.PastLaws.{store-past}
 
 -- a slot's record ends where or before a later slot's begins
@@ -128,40 +128,64 @@ module _ {A : Type 0} (replaces : A → A → Bool) (absent : A) (of : List ℕ 
       let e : pick {A = ℕ} (ltb x 256) x 0 ≡ 0 = rw (le-ltb x 256 (omega arith)) in
       ap (λ (i : ℕ). replaceHeld replaces of bytes w s st i h) e
       ∙ rw (put-none of bytes w long s st 0 h refl, put-far of bytes w long s st x h (omega arith))
-      (flat (hasRoom w s st 0 && replaces (heldAt of w s st 0) h) s ∙ sym (flat (hasRoom w s st x && replaces (heldAt of w s st x) h) s)))
+      (flat (comesIn replaces of w s st 0 h) s ∙ sym (flat (comesIn replaces of w s st x h) s)))
 
   -- stored at its target it is put where it replaces what is held
   pub target-replaced : (s : List ℕ) (st i : ℕ) (h : A) → i < 256 → storeAt s (targetOf replaces of w s st i h) (bytes h) ≡ replaceHeld replaces of bytes w s st i h
   unfolding replaceHeld targetOf
   target-replaced s st i h q =
       dite (ℕ-discrete i 0)
-      (λ e. rw (eq-eqb i 0 e, put-none of bytes w long s st i h e) (store-past s (length s) (bytes h) (omega arith) ∙ sym (flat (hasRoom w s st i && replaces (heldAt of w s st i) h) s)))
-      (λ n. rw (ne-eqb i 0 n, put-slot of bytes w long s st i h (omega arith) q) (go (hasRoom w s st i && replaces (heldAt of w s st i) h)))
+      (λ e. rw (eq-eqb i 0 e, put-none of bytes w long s st i h e) (store-past s (length s) (bytes h) (omega arith) ∙ sym (flat (comesIn replaces of w s st i h) s)))
+      (λ n. rw (ne-eqb i 0 n, put-slot of bytes w long s st i h (omega arith) q) (go (comesIn replaces of w s st i h)))
     where
       go : (b : Bool) → storeAt s (pick b (offset w st i) (length s)) (bytes h) ≡ pick b (storeAt s (offset w st i) (bytes h)) s
       go true = refl
       go false = store-past s (length s) (bytes h) (omega arith)
 
+  -- its target lies within the bytes where it does, and names a slot
+  pub target-within : (s : List ℕ) (st i : ℕ) (h : A) → 0 < w → ltb (targetOf replaces of w s st i h) (length s) ≡ not (eqb i 0) && comesIn replaces of w s st i h
+  unfolding targetOf
+  target-within s st i h p = go (eqb i 0) (decLt (length s) (offset w st i + w))
+    where
+      past : ltb (length s) (length s) ≡ false
+      past = le-ltb (length s) (length s) (omega arith)
+
+      inside : (b : Bool) → offset w st i + w ≤ length s → ltb (pick b (offset w st i) (length s)) (length s) ≡ b
+      inside true l = lt-ltb (offset w st i) (length s) (omega arith)
+      inside false l = past
+
+      go : (z : Bool) → Dec (length s < offset w st i + w) → ltb (pick z (length s) (pick (comesIn replaces of w s st i h) (offset w st i) (length s))) (length s) ≡ not z && comesIn replaces of w s st i h
+      go true d = past
+      go false d =
+          dite d
+          (λ l. rw (lt-ltb (length s) (offset w st i + w) l) past)
+          (λ l. rw (le-ltb (length s) (offset w st i + w) (omega arith)) (inside (replaces (heldAt of w s st i) h) (omega arith)))
+
+  -- a record that names nothing is put nowhere
+  pub replace-none : (s : List ℕ) (st : ℕ) (h : A) → replaceHeld replaces of bytes w s st 0 h ≡ s
+  unfolding replaceHeld
+  replace-none s st h = rw (put-none of bytes w long s st 0 h refl) (flat (comesIn replaces of w s st 0 h) s)
+
   pub replace-room : (s : List ℕ) (st i : ℕ) (h : A) → Kept st (st + w * 255) s (replaceHeld replaces of bytes w s st i h)
   unfolding replaceHeld
-  replace-room s st i h = go (hasRoom w s st i && replaces (heldAt of w s st i) h)
+  replace-room s st i h = go (comesIn replaces of w s st i h)
     where
       go : (b : Bool) → Kept st (st + w * 255) s (pick b (putHeld bytes w s st i h) s)
       go true = put-room of bytes w long s st i h
       go false = kept-same _ _ s
 
   pub replaces-room : (s : List ℕ) (st : ℕ) (ns : List (Named A)) → Kept st (st + w * 255) s (replaceHelds replaces of bytes w s st ns)
-  unfolding replaceHelds
+  unfolding inOrder
   replaces-room s st [] = kept-same _ _ s
   replaces-room s st (n ∷ ns) = kept-trans (replace-room s st (n .at) (n .held)) (replaces-room (replaceHeld replaces of bytes w s st (n .at) (n .held)) st ns)
 
   -- THE LAW: a record put into the bytes where it replaces what they hold is one put so into the list that they say
-  replace-view : (s : List ℕ) (st i : ℕ) (h : A) → st + w * 255 ≤ length s → of (bytes h) ≡ h → heldsAt of w (replaceHeld replaces of bytes w s st i h) st ≡ replace replaces absent (heldsAt of w s st) i h
+  pub replace-view : (s : List ℕ) (st i : ℕ) (h : A) → st + w * 255 ≤ length s → of (bytes h) ≡ h → heldsAt of w (replaceHeld replaces of bytes w s st i h) st ≡ replace replaces absent (heldsAt of w s st) i h
   unfolding replaceHeld replace
   replace-view s st i h fits so =
       dite (ℕ-discrete i 0)
       (λ e.
-      rw (put-none of bytes w long s st i h e, flat (hasRoom w s st i && replaces (heldAt of w s st i) h) s, eq-eqb i 0 e)
+      rw (put-none of bytes w long s st i h e, flat (comesIn replaces of w s st i h) s, eq-eqb i 0 e)
       (sym (flat (replaces (getD (heldsAt of w s st) (i - 1) absent) h) (heldsAt of w s st))))
       (λ n.
       dite (decLt i 256)
@@ -171,7 +195,7 @@ module _ {A : Type 0} (replaces : A → A → Bool) (absent : A) (of : List ℕ 
       let here : getD (heldsAt of w s st) (i - 1) absent ≡ heldAt of w s st i = getD-helds of w s st (i - 1) absent (omega arith) ∙ ap (heldAt of w s st) one in
       rw (le-ltb (length s) (offset w st i + w) near, here) (go (replaces (heldAt of w s st i) h) (put-view of bytes w long s st i h fits ∙ rw so)))
       (λ q.
-      rw (put-far of bytes w long s st i h (omega arith), flat (hasRoom w s st i && replaces (heldAt of w s st i) h) s, ne-eqb i 0 n, set-out (heldsAt of w s st) (i - 1) h (omega (arith, length-helds of w s st)))
+      rw (put-far of bytes w long s st i h (omega arith), flat (comesIn replaces of w s st i h) s, ne-eqb i 0 n, set-out (heldsAt of w s st) (i - 1) h (omega (arith, length-helds of w s st)))
       (sym (flat (replaces (getD (heldsAt of w s st) (i - 1) absent) h) (heldsAt of w s st)))))
     where
       go : (b : Bool) → heldsAt of w (putHeld bytes w s st i h) st ≡ put (heldsAt of w s st) i h → heldsAt of w (pick b (putHeld bytes w s st i h) s) st ≡ pick b (put (heldsAt of w s st) i h) (heldsAt of w s st)
@@ -179,7 +203,7 @@ module _ {A : Type 0} (replaces : A → A → Bool) (absent : A) (of : List ℕ 
       go false e = refl
 
   pub replaces-view : (s : List ℕ) (st : ℕ) (ns : List (Named A)) → st + w * 255 ≤ length s → Sound of bytes w long ns → heldsAt of w (replaceHelds replaces of bytes w s st ns) st ≡ replaceAll replaces absent (heldsAt of w s st) ns
-  unfolding replaceHelds replaceAll
+  unfolding inOrder replaceAll
   replaces-view s st [] fits so = refl
   replaces-view s st (n ∷ ns) fits so =
       let t = replaceHeld replaces of bytes w s st (n .at) (n .held) in

@@ -1,5 +1,5 @@
 -- 01, Examples to hold against it: the statement holds, computed.
-use mathlib.Core.Path.{_≡_, refl, _∙_}
+use mathlib.Core.Path.{_≡_, refl, sym, ap, _∙_}
 use Prim.Native.Nat.{ℕ}
 use mathlib.Core.List.{List, [], _∷_}
 use Rattle.bits.specs.Bits.{bitAt}
@@ -8,9 +8,12 @@ use Rattle.bits.specs.Some.{anyOf}
 use Rattle.field64.proofs.Examples.{products}
 use Rattle.check24.proofs.Examples.{checks}
 use Rattle.slots.specs.Slots.{setCount, nthFrom}
-use Rattle.layout.specs.Layout.{layoutOf}
-use Rattle.contents.specs.Parts.{maskBitsAt, noMask, noClocks, noOrbits}
-use Rattle.judge.specs.Judge.{clockSlots, orbitSlots, refusalOf}
+use native.Mathlib.Omega.{arith}
+use Rattle.layout.specs.Layout.{layoutOf, endOf}
+use Rattle.contents.specs.Parts.{maskBitsAt, noMask, noClocks, noOrbits, contentsAt}
+use Rattle.biases.specs.Biases.{noBiases}
+use Rattle.ura_codes.specs.Codes.{noCodes}
+use Rattle.judge.specs.Judge.{clockSlots, orbitSlots, satSlots, refusalOf, refusalAt}
 use Rattle.judge.proofs.Examples.{refused-6-3-5}
 use Rattle.lookback.specs.Store.{naming, allSame}
 use Rattle.lookback.specs.Walk.{rowsFrom}
@@ -19,36 +22,47 @@ use Rattle.held_clocks.specs.Clocks.{clockReplaces}
 use Rattle.held_orbits.specs.Orbits.{orbitReplaces}
 use Rattle.held_mask.specs.Mask.{heldMask, sameBits, sameMask}
 use Rattle.held_mask.specs.OldForm.{numberOf, packed}
-use Rattle.places.specs.Keeps.{byPlace, bySlot, maskOf, orbitsOf, clocksOf, placeRefusal, maskRefusal}
-use Rattle.row.specs.Row.{isAssigned, usable, agrees, qualifies, rowOf}
+use Rattle.places.specs.Keeps.{byPlace, bySlot, maskOf, orbitsOf, clocksOf, codesOf, placeRefusal, maskRefusal}
+use Rattle.row.specs.Row.{isAssigned, usable, agrees, coded, qualifies, rowOf}
 use Rattle.in_force.specs.Back.{maskInForce}
 use Rattle.list_right.specs.Good.{Good}
 use Rattle.list_right.specs.Examples.{one, two, four, other, sent, issues, row19, Hold}
 use Rattle.list_right.proofs.FramesLaws.{frames-good}
-use Rattle.list_right.proofs.AcceptedLaws.{maskOver, orbitOver, clockOver, Sound, listOver, mask-over, list-over, taken-over, refusal-good}
+use Rattle.list_right.proofs.AcceptedLaws.{refusal-by-layout, maskOver, orbitOver, clockOver, codeOver, Readable, Sound, listOver, mask-over, list-over, taken-over, refusal-good}
 
 -- 8 to 12 do not apply to any of the contents
-judged : (refusalOf other ≡ 0) × (refusalOf four ≡ 0) × (refusalOf two ≡ 0) × (refusalOf one ≡ 0)
-unfolding refusalOf clockSlots orbitSlots anyOf layoutOf noMask noClocks noOrbits table
-judged = (refl, refl, refl, refl)
+pub judged : Readable other × Readable four × Readable two × Readable one
+unfolding refusalOf clockSlots orbitSlots satSlots anyOf layoutOf noMask noClocks noOrbits noBiases noCodes table
+judged =
+    (record { kind = omega arith; sound = refl }, record { kind = omega arith; sound = refl }, record { kind = omega arith; sound = refl }, record { kind = omega arith; sound = refl })
+
+-- type 6: 3 and 5
+too-long : (s : List ℕ) (at : ℕ) → contentsAt s at .kind ≡ 6 → contentsAt s at .clock .count ≡ 3 → contentsAt s at .orbit .count ≡ 5 → refusalAt s at ≡ 9
+too-long s at k n m =
+    let c = contentsAt s at in
+    refusal-by-layout s at (λ e. let z : _≡_ {A = ℕ} 6 3 = sym k ∙ e in omega arith)
+    ∙ ap (λ (j : ℕ). refusalOf (endOf (layoutOf j (c .clock .count) (c .orbit .count))) c) k
+    ∙ ap (λ (j : ℕ). refusalOf (endOf (layoutOf 6 j (c .orbit .count))) c) n
+    ∙ ap (λ (j : ℕ). refusalOf (endOf (layoutOf 6 3 j)) c) m
+    ∙ refused-6-3-5 c k
 
 -- 14 and 15 do not apply, under the mask that the contents before them leave
 placed : (maskRefusal (maskOver sent) other ≡ 0) × (maskRefusal (maskOver (two ∷ one ∷ [])) four ≡ 0) × (maskRefusal (maskOver (one ∷ [])) two ≡ 0) × (maskRefusal (maskOver []) one ≡ 0)
 unfolding placeRefusal maskOver maskOf maskBitsAt bitAt packed numberOf setCount noMask noClocks noOrbits table
 placed = (refl, refl, refl, refl)
 
-sound-sent : Sound sent
+pub sound-sent : Sound sent
 sound-sent = (judged .1, placed .1, (judged .2, placed .2, (judged .3, placed .3, tt)))
 
-sound-other : Sound (other ∷ sent)
+pub sound-other : Sound (other ∷ sent)
 sound-other = (judged .0, placed .0, sound-sent)
 
 whole-over : listOver 60 sent issues ≡ row19 ∷ []
-unfolding listOver maskOver maskBitsAt bitAt packed numberOf orbitOver clockOver maskOf orbitsOf clocksOf byPlace bySlot naming clockReplaces orbitReplaces replaces isNewer allSame sameBits sameMask setCount nthFrom rowsFrom rowOf qualifies isAssigned agrees usable noMask noClocks noOrbits table
+unfolding listOver maskOver maskBitsAt bitAt packed numberOf orbitOver clockOver codeOver maskOf orbitsOf clocksOf codesOf byPlace bySlot naming clockReplaces orbitReplaces replaces isNewer allSame sameBits sameMask setCount nthFrom rowsFrom rowOf coded qualifies isAssigned agrees usable noMask noClocks noOrbits table
 whole-over = refl
 
 gone-over : listOver 60 (other ∷ sent) issues ≡ []
-unfolding listOver maskOver maskBitsAt bitAt packed numberOf orbitOver clockOver maskOf orbitsOf clocksOf byPlace bySlot naming clockReplaces orbitReplaces replaces isNewer allSame sameBits sameMask setCount nthFrom rowsFrom rowOf qualifies isAssigned agrees usable noMask noClocks noOrbits table
+unfolding listOver maskOver maskBitsAt bitAt packed numberOf orbitOver clockOver codeOver maskOf orbitsOf clocksOf codesOf byPlace bySlot naming clockReplaces orbitReplaces replaces isNewer allSame sameBits sameMask setCount nthFrom rowsFrom rowOf coded qualifies isAssigned agrees usable noMask noClocks noOrbits table
 gone-over = refl
 
 again-over : maskRefusal (maskOver (other ∷ sent)) four ≡ 14
@@ -67,7 +81,7 @@ examples = record {
   field = products;
   check = checks;
   ends = (refl, refl, refl, refl);
-  long = refused-6-3-5;
+  long = too-long;
   ura = (refl, refl);
   there = frames-good;
   taken = λ h G. taken-over 60 h sent G sound-sent;

@@ -9,7 +9,7 @@ use Rattle.check24.specs.Check.{feedOf, checkBits, checkOf}
 use Rattle.parity_tables.specs.Tables.{positions, factors}
 use Rattle.parity.specs.Parity.{symbolOf, rowSum, zeroFrom, parityOk}
 use Rattle.layout.specs.Layout.{layoutOf}
-use Rattle.contents.specs.Parts.{noMask, noClocks, noOrbits, maskBytesAt, clocksAt, orbitsAt, maskIn, clocksIn, orbitsIn, contentsAt}
+use Rattle.contents.specs.Parts.{noMask, noClocks, noOrbits, maskBytesAt, clocksAt, orbitsAt, maskIn, clocksIn, orbitsIn, biasesIn, codesIn, contentsAt}
 use Rattle.frame.specs.Frame.{shellRefusal}
 use Rattle.held_mask.specs.OldForm.{numberOf, packed}
 use Rattle.list_right.specs.Examples.{four, other, sent}
@@ -17,5 +17,5 @@ use Rattle.list_right.specs.Good.{Good}
 use Rattle.list_right.specs.Frames.{frameOne, frameTwo, frameFour, frameOther, frames}
 
 pub frames-good : Good 60 frames (four ∷ other ∷ sent)
-unfolding frameOne frameTwo frameFour frameOther shellRefusal fieldAt bitAt bitsFrom parityOk zeroFrom rowSum symbolOf positions factors product productRun addIf twiceOf timesX checkOf checkBits feedOf contentsAt maskIn clocksIn orbitsIn maskBytesAt packed numberOf clocksAt orbitsAt layoutOf noMask noClocks noOrbits table
+unfolding frameOne frameTwo frameFour frameOther shellRefusal fieldAt bitAt bitsFrom parityOk zeroFrom rowSum symbolOf positions factors product productRun addIf twiceOf timesX checkOf checkBits feedOf contentsAt maskIn clocksIn orbitsIn biasesIn codesIn maskBytesAt packed numberOf clocksAt orbitsAt layoutOf noMask noClocks noOrbits table
 frames-good = (refl, refl, (refl, refl, (refl, refl, (refl, refl, (refl, refl, tt)))))

@@ -26,7 +26,7 @@ use Rattle.list_right.specs.Right.{qualifying, Serves, Right}
 module _ (s : List ℕ) (prn : ℕ) (h : List (List ℕ)) (is : List ℕ) (H : Holds s prn h) where
   pub row-held : (slot : ℕ) → 1 ≤ slot → slot ≤ 255 → rowIn s is slot ≡ rowInForce prn h is slot
   unfolding rowInForce
-  row-held slot p q = rw (H .mask, H .orbit slot p q, H .clock slot p q)
+  row-held slot p q = rw (H .mask, H .orbit slot p q, H .code slot p q, H .clock slot p q)
 
   pub list-held : listIn s is ≡ listInForce prn h is
   unfolding listInForce

@@ -13,9 +13,11 @@ use Rattle.records.specs.Clock.{blankClock}
 use Rattle.ura.specs.declared.Ura.the-variants.{Quarters}
 use Rattle.slots.specs.declared.System.the-variants.{BeiDou}
 use Rattle.layout.specs.Layout.{layoutOf, endOf}
-use Rattle.contents.specs.Parts.{noMask, noClocks, noOrbits}
+use Rattle.contents.specs.Parts.{noMask, noClocks, noOrbits, contentsAt}
+use Rattle.biases.specs.Biases.{noBiases}
+use Rattle.ura_codes.specs.Codes.{noCodes}
 use Rattle.contents.specs.declared.parts.Contents.{Contents}
-use Rattle.judge.specs.Judge.{refusalOf}
+use Rattle.judge.specs.Judge.{refusalAt}
 use Rattle.held_mask.specs.OldForm.{packed}
 use Rattle.in_force.specs.Back.{refusalAfter}
 use Rattle.row.specs.declared.Row.{Row}
@@ -30,7 +32,7 @@ maskBits (s ∷ ss) = set (maskBits ss) (s - 1) true
 
 -- type 1: epoch 3600, SSR 1
 abbrev pub mask : ℕ → List ℕ → Contents
-mask iodp ss = record { kind = 1; mask = record { epoch = 3600; ssr = 1; iodp = iodp; bytes = packed (maskBits ss) }; clock = noClocks; orbit = noOrbits }
+mask iodp ss = record { kind = 1; mask = record { epoch = 3600; ssr = 1; iodp = iodp; bytes = packed (maskBits ss) }; clock = noClocks; orbit = noOrbits; bias = noBiases; code = noCodes }
 
 -- type 1: IODP 5, slots 3, 19, 64, 101
 abbrev pub one : Contents
@@ -52,6 +54,8 @@ two =
             ∷ record { slot = 64; iodn = 88; corr = 4; radial = negsuc 0; along = pos 0; cross = pos 4095; ura = uraOf 63 }
             ∷ replicate 4 blankOrbit;
       };
+      bias = noBiases;
+      code = noCodes;
     }
 
 -- type 4: epoch 3612, SSR 1, IODP 5, sub-type 0
@@ -73,6 +77,8 @@ four =
             ∷ replicate 20 blankClock;
       };
       orbit = noOrbits;
+      bias = noBiases;
+      code = noCodes;
     }
 
 -- type 1: IODP 6, slots 3, 5, 19, 64, 101
@@ -111,8 +117,8 @@ pub record Hold : Type 0 where
   pub check : (checkOf (replicate 58 0) 0 462 ≡ 0) × (checkOf (replicate 57 0 ++ 4 ∷ []) 0 462 ≡ 0x864CFB)
   -- type 6: 22 and 0 ends at 446; 2 and 5 at 454; 3 and 5 at 472. Type 7: 2 and 5 at 459
   pub ends : (endOf (layoutOf 6 22 0) ≡ 446) × (endOf (layoutOf 6 2 5) ≡ 454) × (endOf (layoutOf 6 3 5) ≡ 472) × (endOf (layoutOf 7 2 5) ≡ 459)
-  -- 3 and 5 is refused 9
-  pub long : (c : Contents) → c .kind ≡ 6 → c .clock .count ≡ 3 → c .orbit .count ≡ 5 → refusalOf c ≡ 9
+  -- 3 and 5 is refused 9, wherever the message begins
+  pub long : (s : List ℕ) (at : ℕ) → contentsAt s at .kind ≡ 6 → contentsAt s at .clock .count ≡ 3 → contentsAt s at .orbit .count ≡ 5 → refusalAt s at ≡ 9
   -- URA code 19 is 59 quarters; code 62 is 21,866
   pub ura : (uraOf 19 ≡ Quarters 59) × (uraOf 62 ≡ Quarters 21866)
   -- 01, the whole list: there are frames whose shells are good, with these contents

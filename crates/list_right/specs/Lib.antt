@@ -3,3 +3,4 @@ pub mod Right
 pub mod Good
 pub mod Examples
 pub mod Frames
+pub mod Codes

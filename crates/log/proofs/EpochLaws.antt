@@ -14,7 +14,7 @@ use Rattle.bits.specs.Bits.{fieldAt}
 use Rattle.bits.proofs.ByteWise.{field-split}
 use Rattle.layout.specs.Layout.{layoutOf}
 use Rattle.layout.specs.declared.Layout.{Layout}
-use Rattle.contents.specs.Parts.{maskIn, clocksIn, orbitsIn, noClocks, noOrbits, contentsAt}
+use Rattle.contents.specs.Parts.{maskIn, clocksIn, orbitsIn, biasesIn, codesIn, noClocks, noOrbits, contentsAt}
 use Rattle.frame.specs.Frame.{contentsOf}
 use Rattle.log.specs.Epochs.{epochOf, epochBit}
 
@@ -34,6 +34,14 @@ module _ (f : List ℕ) where
   kind-2 : fieldAt f 28 6 ≡ 2 → epochOf (contentsOf f) ≡ epochAt f (epochBit f)
   unfolding epochOf epochBit contentsAt clocksIn orbitsIn layoutOf noClocks
   kind-2 e = rw e
+
+  kind-3 : fieldAt f 28 6 ≡ 3 → epochOf (contentsOf f) ≡ epochAt f (epochBit f)
+  unfolding epochOf epochBit contentsAt biasesIn
+  kind-3 e = rw e
+
+  kind-5 : fieldAt f 28 6 ≡ 5 → epochOf (contentsOf f) ≡ epochAt f (epochBit f)
+  unfolding epochOf epochBit contentsAt codesIn
+  kind-5 e = rw e
 
   kind-4 : fieldAt f 28 6 ≡ 4 → epochOf (contentsOf f) ≡ epochAt f (epochBit f)
   unfolding epochOf epochBit contentsAt clocksIn layoutOf
@@ -60,15 +68,25 @@ module _ (f : List ℕ) where
   unfolding epochOf epochBit contentsAt layoutOf
   kind-7 e = rw e (counted 0 0 true)
 
-  kind-other : fieldAt f 28 6 ≢ 1 → fieldAt f 28 6 ≢ 2 → fieldAt f 28 6 ≢ 4 → fieldAt f 28 6 ≢ 6 → fieldAt f 28 6 ≢ 7 → epochOf (contentsOf f) ≡ epochAt f (epochBit f)
+  kind-other : fieldAt f 28 6 ≢ 1 → fieldAt f 28 6 ≢ 2 → fieldAt f 28 6 ≢ 3 → fieldAt f 28 6 ≢ 4 → fieldAt f 28 6 ≢ 5 → fieldAt f 28 6 ≢ 6 → fieldAt f 28 6 ≢ 7 → epochOf (contentsOf f) ≡ epochAt f (epochBit f)
   unfolding epochOf epochBit contentsAt clocksIn orbitsIn layoutOf noClocks noOrbits
-  kind-other a b c d e =
-      rw (ne-eqb (fieldAt f 28 6) 1 a, ne-eqb (fieldAt f 28 6) 2 b, ne-eqb (fieldAt f 28 6) 4 c, ne-eqb (fieldAt f 28 6) 6 d, ne-eqb (fieldAt f 28 6) 7 e)
+  kind-other a b c d e g h =
+      rw (
+        ne-eqb (fieldAt f 28 6) 1 a,
+        ne-eqb (fieldAt f 28 6) 2 b,
+        ne-eqb (fieldAt f 28 6) 3 c,
+        ne-eqb (fieldAt f 28 6) 4 d,
+        ne-eqb (fieldAt f 28 6) 5 e,
+        ne-eqb (fieldAt f 28 6) 6 g,
+        ne-eqb (fieldAt f 28 6) 7 h,
+      )
 
   pub epoch-there : epochOf (contentsOf f) ≡ epochAt f (epochBit f)
   epoch-there =
       dite (ℕ-discrete (fieldAt f 28 6) 1) kind-1
       (λ a. dite (ℕ-discrete (fieldAt f 28 6) 2) kind-2
-      (λ b. dite (ℕ-discrete (fieldAt f 28 6) 4) kind-4
-      (λ c. dite (ℕ-discrete (fieldAt f 28 6) 6) kind-6
-      (λ d. dite (ℕ-discrete (fieldAt f 28 6) 7) kind-7 (λ e. kind-other a b c d e)))))
+      (λ b. dite (ℕ-discrete (fieldAt f 28 6) 3) kind-3
+      (λ c. dite (ℕ-discrete (fieldAt f 28 6) 4) kind-4
+      (λ d. dite (ℕ-discrete (fieldAt f 28 6) 5) kind-5
+      (λ e. dite (ℕ-discrete (fieldAt f 28 6) 6) kind-6
+      (λ g. dite (ℕ-discrete (fieldAt f 28 6) 7) kind-7 (λ h. kind-other a b c d e g h)))))))

@@ -9,13 +9,15 @@ use Rattle.bits.specs.Bits.{fieldAt}
 use Rattle.contents.specs.declared.parts.Contents.{Contents}
 use Rattle.log.specs.declared.epochs.Epochs.{Epochs}
 
--- 01, Message fields: the epoch of a message: type 1's; of two parts the clock part's; none in type 63, and in 6 and 7 with no part
+-- 01, Message fields, and 02, CR 2: the epoch of a message: that of types 1, 3 and 5; of two parts the clock part's; none in type 63, and in 6 and 7 with no part
 unfoldable pub epochOf : Contents → Option ℕ
 epochOf c =
     pick (eqb (c .kind) 1) (some (c .mask .epoch))
+    (pick (eqb (c .kind) 3) (some (c .bias .epoch))
+    (pick (eqb (c .kind) 5) (some (c .code .epoch))
     (pick (ltb 0 (c .clock .count)) (some (c .clock .epoch))
     (pick (ltb 0 (c .orbit .count)) (some (c .orbit .epoch))
-    none))
+    none))))
 
 -- before the first frame: no epoch, and no frame since
 abbrev pub noEpochs : Epochs
@@ -57,4 +59,4 @@ epochsAfter e (some x) = withEpoch e x
 unfoldable pub epochBit : List ℕ → ℕ
 epochBit f =
     let kind = fieldAt f 28 6 in
-    pick (eqb kind 1 || eqb kind 2 || eqb kind 4) 34 (pick ((eqb kind 6 || eqb kind 7) && ltb 0 (fieldAt f 34 8)) 42 0)
+    pick (eqb kind 1 || eqb kind 2 || eqb kind 3 || eqb kind 4 || eqb kind 5) 34 (pick ((eqb kind 6 || eqb kind 7) && ltb 0 (fieldAt f 34 8)) 42 0)

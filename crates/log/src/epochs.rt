@@ -90,7 +90,7 @@ fn epoch_bit(frame: &[u8]) -> u8
 {
     let kind = bits::get8(frame, 28, 6);
     let counts = bits::get8(frame, 34, 8);
-    if (kind == 1) | (kind == 2) | (kind == 4) {
+    if (kind == 1) | (kind == 2) | (kind == 3) | (kind == 4) | (kind == 5) {
         return 34;
     }
     if ((kind == 6) | (kind == 7)) & (0 < counts) {

@@ -39,7 +39,7 @@ unfoldable pub times : {A : Type 0} → ℕ → List (Named A) → ℕ
 times s [] = 0
 times s (n ∷ ns) = times s ns + pick (eqb (n .at) s) 1 0
 
-times-none : {A : Type 0} (s : ℕ) (ns : List (Named A)) → times s ns ≡ 0 → naming s ns ≡ none
+pub times-none : {A : Type 0} (s : ℕ) (ns : List (Named A)) → times s ns ≡ 0 → naming s ns ≡ none
 unfolding times naming
 times-none s [] e = refl
 times-none s (n ∷ ns) e = go (eqb (n .at) s) e (times-none s ns)
@@ -47,6 +47,29 @@ times-none s (n ∷ ns) e = go (eqb (n .at) s) e (times-none s ns)
     go : (b : Bool) → times s ns + pick b 1 0 ≡ 0 → (times s ns ≡ 0 → naming s ns ≡ none) → orElse (naming s ns) (pick b (some (n .held)) none) ≡ none
     go true t ih = absurd (let z : ⊥ = omega arith in z)
     go false t ih = rw (ih (omega arith))
+
+-- of three, the first that is there
+pub or-or : {A : Type 0} (a b : Option A) (d : A) → getOr a (getOr b d) ≡ getOr (orElse a b) d
+or-or (some x) b d = refl
+or-or none b d = refl
+
+or-none : {A : Type 0} (o : Option A) → orElse o none ≡ o
+or-none (some r) = refl
+or-none none = refl
+
+-- a slot that no record names, and one that a record names
+pub naming-other : {A : Type 0} (s : ℕ) (n : Named A) (ns : List (Named A)) → eqb (n .at) s ≡ false → naming s (n ∷ ns) ≡ naming s ns
+unfolding naming
+naming-other s n ns e = rw e (or-none (naming s ns))
+
+pub naming-own : {A : Type 0} (s : ℕ) (n : Named A) (ns : List (Named A)) → eqb (n .at) s ≡ true → naming s (n ∷ ns) ≡ orElse (naming s ns) (some (n .held))
+unfolding naming
+naming-own s n ns e = rw e
+
+-- the latest to arrive counts: where every record replaces what is held, any does
+pub arrives : {A : Type 0} (d : A) (o : Option A) → replacing (λ a b. true) d o ≡ o
+arrives d (some r) = refl
+arrives d none = refl
 
 -- ---- some records, one after the other
 module _ {A : Type 0} (replaces : A → A → Bool) (absent : A) where
@@ -83,10 +106,6 @@ module _ {A : Type 0} (replaces : A → A → Bool) (absent : A) where
       let ys = replace replaces absent xs (n .at) (n .held) in
       go (eqb (n .at) s) o (replace-at xs (n .at) s (n .held) p q) (replaceAll-at ys ns s p (rw (length-replace xs (n .at) (n .held)) q))
     where
-      or-none : (x : Option A) → x ≡ orElse x none
-      or-none (some r) = refl
-      or-none none = refl
-
       go : (b : Bool) → times s ns + pick b 1 0 ≤ 1 →
           getD (replace replaces absent xs (n .at) (n .held)) (s - 1) absent ≡ pick b (pick (replaces (getD xs (s - 1) absent) (n .held)) (n .held) (getD xs (s - 1) absent)) (getD xs (s - 1) absent) →
           (times s ns ≤ 1 → getD (replaceAll replaces absent (replace replaces absent xs (n .at) (n .held)) ns) (s - 1) absent ≡ getOr (replacing replaces (getD (replace replaces absent xs (n .at) (n .held)) (s - 1) absent) (naming s ns)) (getD (replace replaces absent xs (n .at) (n .held)) (s - 1) absent)) →
@@ -98,4 +117,4 @@ module _ {A : Type 0} (replaces : A → A → Bool) (absent : A) where
           one : (b : Bool) → pick b (n .held) (getD xs (s - 1) absent) ≡ getOr (pick b (some (n .held)) none) (getD xs (s - 1) absent)
           one true = refl
           one false = refl
-      go false t e ih = ih (omega arith) ∙ rw e (ap (λ (x : Option A). getOr (replacing replaces (getD xs (s - 1) absent) x) (getD xs (s - 1) absent)) (or-none (naming s ns)))
+      go false t e ih = ih (omega arith) ∙ rw e (ap (λ (x : Option A). getOr (replacing replaces (getD xs (s - 1) absent) x) (getD xs (s - 1) absent)) (sym (or-none (naming s ns))))

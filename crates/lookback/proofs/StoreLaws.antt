@@ -124,14 +124,20 @@ module _ {F M A : Type 0} {k : Kind A} {same : M → M → Bool} {replaces : A �
   held-against c h (some m) s e = rw (L .quiet h c m s e)
   held-against c h none s e = refl
 
+  -- the record of a slot that a store held, kept by the mask of c and replaced by that of c where it does, is the one in force after c
+  pub slot-step : (c : F) (h : List F) (xs : List A) (s : ℕ) → getD xs (s - 1) (k .absent) ≡ back [] h s →
+      getOr (replacing replaces (getD (kept k same (maskOf c) (maskIn h) xs) (s - 1) (k .absent)) (by h c s)) (getD (kept k same (maskOf c) (maskIn h) xs) (s - 1) (k .absent)) ≡ back [] (c ∷ h) s
+  slot-step c h xs s e =
+      rw (kept-since h (maskOf c) xs s e, held-against c h (maskOf c) s refl, L .next [] c h s)
+      (sym (standing-nil k same (maskIn h) (replacing replaces (back [] h s) (by h c s)) (back (since (maskOf c) []) h s)))
+
   -- a store that held what is in force after h, kept by the mask of c and given the records ns, holds what is in force after c
   pub store-step : (c : F) (h : List F) (xs : List A) (ns : List (Named A)) (s : ℕ) → 1 ≤ s → s ≤ length xs → times s ns ≤ 1 →
       getD xs (s - 1) (k .absent) ≡ back [] h s → naming s ns ≡ by h c s →
       getD (replaceAll replaces (k .absent) (kept k same (maskOf c) (maskIn h) xs) ns) (s - 1) (k .absent) ≡ back [] (c ∷ h) s
   store-step c h xs ns s p q o e f =
       replaceAll-at replaces (k .absent) (kept k same (maskOf c) (maskIn h) xs) ns s p (rw (length-kept k same (maskOf c) (maskIn h) xs) q) o ∙
-      rw (kept-since h (maskOf c) xs s e, f, held-against c h (maskOf c) s refl, L .next [] c h s)
-      (sym (standing-nil k same (maskIn h) (replacing replaces (back [] h s) (by h c s)) (back (since (maskOf c) []) h s)))
+      rw f (slot-step c h xs s e)
 
   -- a frame that does nothing
   pub store-idle : (c : F) (h : List F) (s : ℕ) → maskOf c ≡ none → by h c s ≡ none → back [] (c ∷ h) s ≡ back [] h s

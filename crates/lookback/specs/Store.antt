@@ -25,6 +25,11 @@ unfoldable pub replaceAll : {A : Type 0} → (A → A → Bool) → A → List A
 replaceAll replaces absent xs [] = xs
 replaceAll replaces absent xs (n ∷ ns) = replaceAll replaces absent (replace replaces absent xs (n .at) (n .held)) ns
 
+-- named records, one after the other, each by one step from state to state
+unfoldable pub inOrder : {S A : Type 0} → (S → ℕ → A → S) → S → List (Named A) → S
+inOrder step s [] = s
+inOrder step s (n ∷ ns) = inOrder step (step s (n .at) (n .held)) ns
+
 -- the first of two that is there
 abbrev pub orElse : {A : Type 0} → Option A → Option A → Option A
 orElse (some a) o = some a
@@ -44,6 +49,11 @@ naming s (n ∷ ns) = orElse (naming s ns) (pick (eqb (n .at) s) (some (n .held)
 abbrev pub replacing : {A : Type 0} → (A → A → Bool) → A → Option A → Option A
 replacing replaces d (some r) = pick (replaces d r) (some r) none
 replacing replaces d none = none
+
+-- 02, CR 2: what comes in ends a record of another kind: absent, where something comes
+abbrev pub ending : {A B : Type 0} → B → Option A → Option B
+ending absent (some r) = some absent
+ending absent none = none
 
 -- every one of the masks ms is the mask p
 unfoldable pub allSame : {M : Type 0} → (M → M → Bool) → M → List M → Bool

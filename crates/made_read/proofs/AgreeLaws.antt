@@ -1,6 +1,6 @@
 -- What is read at bit a of s and at bit b of t is the same where the bits agree.
 use Prim.Native.Nat.{ℕ, zero, suc, _+_, _*_, _<_, _≤_}
-use mathlib.Core.Path.{_≡_, refl, ap, ap₂, _∙_}
+use mathlib.Core.Path.{_≡_, refl, ap, ap₂}
 use mathlib.Core.Logic.{dite}
 use mathlib.Core.Bool.{Bool, true, false}
 use mathlib.Core.List.{List, [], _∷_}
@@ -18,17 +18,16 @@ use Rattle.records.specs.Clock.{clockWidths, clockOf}
 use Rattle.layout.specs.Layout.{partWidths, layoutOf, orbitBits, orbitsFrom, endOf}
 use Rattle.layout.specs.declared.Layout.{Layout}
 use Rattle.layout.proofs.LayoutLaws.{pick-all, from-some}
-use Rattle.contents.specs.Parts.{clockNth, clocksAt, orbitNth, orbitsAt, maskBytesAt, noMask, maskIn, clocksIn, orbitsIn, layoutAt, contentsAt}
+use Rattle.contents.specs.Parts.{clockNth, clocksAt, orbitNth, orbitsAt, maskBytesAt, noMask, maskIn, clocksIn, orbitsIn}
 use Rattle.contents.specs.declared.parts.MaskPart.{MaskPart}
 use Rattle.contents.specs.declared.parts.ClockPart.{ClockPart}
 use Rattle.contents.specs.declared.parts.OrbitPart.{OrbitPart}
-use Rattle.contents.specs.declared.parts.Contents.{Contents}
 use Rattle.records.specs.declared.clock.Clock.{Clock}
 use Rattle.records.specs.declared.orbit.Orbit.{Orbit}
 use Rattle.made_read.specs.MadeRead.{Agree}
 
 -- every type's head is short
-short-head : (kind numc numo : ℕ) → layoutOf kind numc numo .head ≤ 14
+pub short-head : (kind numc numo : ℕ) → layoutOf kind numc numo .head ≤ 14
 unfolding layoutOf
 short-head kind numc numo =
     pick-all (λ (l : Layout). l .head ≤ 14) (eqb kind 1) _ _ (omega arith)
@@ -48,7 +47,7 @@ module _ (n : ℕ) (s : List ℕ) (a : ℕ) (t : List ℕ) (b : ℕ) (same : Agr
   field-at x y k (suc w) e f h =
       ap₂ (λ (p q : ℕ). 2 * p + q) (field-at x y k w e f (omega arith)) (bit-at (x + w) (y + w) (k + w) (omega arith) (omega arith) (omega arith))
 
-  fields-at : (x y k : ℕ) (ws : List ℕ) → x ≡ a + k → y ≡ b + k → k + total ws ≤ n → fieldsAt s x ws ≡ fieldsAt t y ws
+  pub fields-at : (x y k : ℕ) (ws : List ℕ) → x ≡ a + k → y ≡ b + k → k + total ws ≤ n → fieldsAt s x ws ≡ fieldsAt t y ws
   fields-at x y k [] e f h = refl
   fields-at x y k (w ∷ ws) e f h =
       ap₂ (λ (v : ℕ) (vs : List ℕ). v ∷ vs) (field-at x y k w e f (omega arith))
@@ -69,7 +68,7 @@ module _ (n : ℕ) (s : List ℕ) (a : ℕ) (t : List ℕ) (b : ℕ) (same : Agr
       (field-at (a + m) (b + m) m 24 refl refl h)
 
   -- ---- the parts of a layout that ends within the bits
-  mask-same : (l : Layout) → l .head ≤ 14 → 296 ≤ n → maskIn s a l ≡ maskIn t b l
+  pub mask-same : (l : Layout) → l .head ≤ 14 → 296 ≤ n → maskIn s a l ≡ maskIn t b l
   unfolding maskIn maskBytesAt
   mask-same l h r =
       ap (λ (p : MaskPart). pick (l .mask) p noMask)
@@ -104,7 +103,7 @@ module _ (n : ℕ) (s : List ℕ) (a : ℕ) (t : List ℕ) (b : ℕ) (same : Agr
       (λ l. rw (lt-ltb i count l) (ap orbitOf (fields-at (x + 69 * i) (y + 69 * i) (k + 69 * i) orbitWidths (omega arith) (omega arith) (omega arith))))
       (λ l. rw (le-ltb i count (omega arith)))
 
-  clocks-same : (l : Layout) → endOf l ≤ n → clocksIn s a l ≡ clocksIn t b l
+  pub clocks-same : (l : Layout) → endOf l ≤ n → clocksIn s a l ≡ clocksIn t b l
   unfolding clocksIn clocksAt
   clocks-same l h =
       dite (ℕ-discrete (l .clocks) 0)
@@ -123,7 +122,7 @@ module _ (n : ℕ) (s : List ℕ) (a : ℕ) (t : List ℕ) (b : ℕ) (same : Agr
       clock l f ks =
           record { epoch = getD f 0 0; ssr = getD f 2 0; iodp = getD f 3 0; start = getD f 4 0; count = l .clocks; clocks = ks }
 
-  orbits-same : (l : Layout) → endOf l ≤ n → orbitsIn s a l ≡ orbitsIn t b l
+  pub orbits-same : (l : Layout) → endOf l ≤ n → orbitsIn s a l ≡ orbitsIn t b l
   unfolding orbitsIn orbitsAt
   orbits-same l h =
       dite (ℕ-discrete (l .orbits) 0)
@@ -140,29 +139,3 @@ module _ (n : ℕ) (s : List ℕ) (a : ℕ) (t : List ℕ) (b : ℕ) (same : Agr
     where
       orbit : Layout → List ℕ → List Orbit → OrbitPart
       orbit l f os = record { epoch = getD f 0 0; ssr = getD f 2 0; count = l .orbits; orbits = os }
-
-  -- ---- the layout, and the contents where it ends within the bits
-  pub kind-same : 14 ≤ n → fieldAt s a 6 ≡ fieldAt t b 6
-  kind-same h = field-at a b 0 6 (omega arith) (omega arith) (omega arith)
-
-  pub layout-same : 14 ≤ n → layoutAt s a ≡ layoutAt t b
-  layout-same h =
-      rw (
-        kind-same h,
-        field-at (a + 6) (b + 6) 6 5 refl refl (omega arith),
-        field-at (a + 6 + 5) (b + 6 + 5) 11 3 (omega arith) (omega arith) (omega arith),
-      )
-
-  pub contents-same : 296 ≤ n → endOf (layoutAt t b) ≤ n → contentsAt s a ≡ contentsAt t b
-  unfolding contentsAt
-  contents-same r h =
-      let l = layoutAt t b in
-      let e = layout-same (omega arith) in
-      parts (kind-same (omega arith))
-      (ap (maskIn s a) e ∙ mask-same l (short-head (fieldAt t b 6) (fieldAt t (b + 6) 5) (fieldAt t (b + 6 + 5) 3)) r)
-      (ap (clocksIn s a) e ∙ clocks-same l h)
-      (ap (orbitsIn s a) e ∙ orbits-same l h)
-    where
-      parts : {i j : ℕ} {m m′ : MaskPart} {k k′ : ClockPart} {o o′ : OrbitPart} → i ≡ j → m ≡ m′ → k ≡ k′ → o ≡ o′
-          → _≡_ {A = Contents} (record { kind = i; mask = m; clock = k; orbit = o }) (record { kind = j; mask = m′; clock = k′; orbit = o′ })
-      parts d e f g = rw (d, e, f, g)

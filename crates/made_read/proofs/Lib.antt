@@ -1,2 +1,4 @@
 pub mod AgreeLaws
+pub mod BiasAgree
+pub mod ContentsAgree
 pub mod ReadSame

@@ -1,7 +1,7 @@
 -- 02, CR 9: a made frame whose first flag is 0 is read as its message is.
 use Prim.Native.Nat.{ℕ, zero, suc, _+_, _*_, _/_, _%_, _^_, _<_}
-use mathlib.Core.Path.{_≡_, refl, sym, ap, _∙_}
-use mathlib.Core.Logic.{_≢_, dite}
+use mathlib.Core.Path.{_≡_, refl, sym, ap, ap₂, _∙_}
+use mathlib.Core.Logic.{_≢_, ⊎-elim, dite}
 use mathlib.Core.Bool.{Bool, true, false, not}
 use mathlib.Core.List.{List}
 use native.Mathlib.Decide.{decLt, ℕ-discrete}
@@ -17,11 +17,9 @@ use Rattle.bits.proofs.WindowLaws.{field-high}
 use Rattle.check24.specs.Check.{checkOk}
 use Rattle.verdict.proofs.NumberLaws.{number-last}
 use Rattle.parity.specs.Parity.{symbolOf}
-use Rattle.layout.specs.Layout.{endOf}
-use Rattle.contents.specs.Parts.{layoutAt, contentsAt, noContents}
+use Rattle.contents.specs.Parts.{contentsAt, endAt, noContents}
 use Rattle.contents.specs.declared.parts.Contents.{Contents}
-use Rattle.judge.specs.Judge.{isKind, tooLong, refusalOf}
-use Rattle.canonical.proofs.CanonLaws.{layout-read}
+use Rattle.judge.specs.Judge.{isKind, refusalOf, refusalAt}
 use Rattle.message.specs.Read.{Answer, answer, readMessage}
 use Rattle.frame.specs.Frame.{contentsOf, shellRefusal, refusalWith, frameSays, readWith, readFrame}
 use Rattle.frame.proofs.FrameLaws.{leading, second}
@@ -30,7 +28,8 @@ use Rattle.making.specs.Make.{messageSymbol, Made, makeRefusal}
 use Rattle.making.proofs.MakeLaws.{taken, Taken}
 use Rattle.making.proofs.Theorems.{made-long, made-sync, made-unit, made-symbol, made-groups}
 use Rattle.made_read.specs.MadeRead.{Agree, MadeRead}
-use Rattle.made_read.proofs.AgreeLaws.{check-same, kind-same, layout-same, contents-same}
+use Rattle.made_read.proofs.AgreeLaws.{check-same}
+use Rattle.made_read.proofs.ContentsAgree.{kind-same, end-same, contents-same}
 
 -- equal fields have equal bits
 field-bits : (s : List ℕ) (x : ℕ) (t : List ℕ) (y n : ℕ) → fieldAt s x n ≡ fieldAt t y n → (k : ℕ) → k < n → bitAt s (x + k) ≡ bitAt t (y + k)
@@ -41,15 +40,10 @@ field-bits s x t y (suc n) e k h =
     let f : fieldAt s x n ≡ fieldAt t y n = omega (arith, bit-lt s (x + n), bit-lt t (y + n)) in
     dite (decLt k n) (λ l. field-bits s x t y n f k l) (λ m. let q : k ≡ n = omega arith in rw q b)
 
--- contents that end after bit 462 are refused 8 or 9, whatever else they say
-long-refusal : (c : Contents) → tooLong (c .kind) (c .clock .count) (c .orbit .count) ≡ true → refusalOf c ≡ pick (not (isKind (c .kind))) 8 9
-unfolding refusalOf
-long-refusal c e = rw e
-
-too-long : (s : List ℕ) (at : ℕ) → 462 < endOf (layoutAt s at) → refusalOf (contentsAt s at) ≡ pick (not (isKind (fieldAt s at 6))) 8 9
-unfolding contentsAt
-too-long s at h =
-    long-refusal (contentsAt s at) (rw (layout-read s at) (lt-ltb 462 (endOf (layoutAt s at)) h))
+-- a message that ends after bit 462 is refused 8 or 9, whatever else it says
+too-long : (s : List ℕ) (at : ℕ) → 462 < endAt s at → refusalAt s at ≡ pick (not (isKind (fieldAt s at 6))) 8 9
+unfolding refusalAt refusalOf contentsAt
+too-long s at h = rw (lt-ltb 462 (endAt s at) h)
 
 -- a number of contents that is none of 0 and 6
 long-not-0 : (b : Bool) → _≢_ {A = ℕ} (pick b 8 9) 0
@@ -100,32 +94,37 @@ module _ (message room frame : List ℕ) (prn flags : ℕ) (r : makeRefusal mess
       (λ q. rw (told-alone frame n s, e, eq-eqb k 0 q, z q))
       (λ q. rw (told-alone frame n s, e, ne-eqb k 0 q))
 
-  -- the check holds: the contents are judged
-  judged : checkOk message 0 462 ≡ true → readFrame frame ≡ readMessage message
-  unfolding readWith refusalWith readMessage
-  judged ok =
-      let n = refusalOf (contentsOf frame) in
-      let k = refusalOf (contentsAt message 0) in
-      let zero : shellRefusal false frame ≡ 0 = shell-is ∙ rw ok in
-      let both : (n ≡ k) × (k ≡ 0 → contentsOf frame ≡ contentsAt message 0) =
-      dite (decLt 462 (endOf (layoutAt message 0)))
+  -- the contents are judged alike, and are the same where they are taken
+  same-judged : (refusalAt frame 28 ≡ refusalAt message 0) × (refusalAt message 0 ≡ 0 → contentsOf frame ≡ contentsAt message 0)
+  unfolding refusalAt
+  same-judged =
+      dite (decLt 462 (endAt message 0))
       (λ h.
       let e = too-long message 0 h in
-      let l = layout-same 486 frame 28 message 0 agree (omega arith) in
-      let d = too-long frame 28 (rw l h) in (
+      let d = too-long frame 28 (⊎-elim (λ p. omega arith) (λ p. p .0) (end-same 486 frame 28 message 0 agree (omega arith))) in (
         d ∙ ap (λ (x : ℕ). pick (not (isKind x)) 8 9) (kind-same 486 frame 28 message 0 agree (omega arith)) ∙ sym e,
         λ z. absurd (long-not-0 (not (isKind (fieldAt message 0 6))) (sym e ∙ z)),
       ))
       (λ h.
-      let e = contents-same 486 frame 28 message 0 agree (omega arith) (omega arith) in
-      (ap refusalOf e, λ z. e)) in
+      let c = contents-same 486 frame 28 message 0 agree (omega arith) (omega arith) in
+      let f = ⊎-elim (λ p. p) (λ p. absurd (h (p .1))) (end-same 486 frame 28 message 0 agree (omega arith)) in
+      (ap₂ refusalOf f c, λ z. c))
+
+  -- the check holds: the contents are judged
+  judged : checkOk message 0 462 ≡ true → readFrame frame ≡ readMessage message
+  unfolding readWith refusalWith readMessage
+  judged ok =
+      let n = refusalAt frame 28 in
+      let k = refusalAt message 0 in
+      let zero : shellRefusal false frame ≡ 0 = shell-is ∙ rw ok in
+      let both = same-judged in
       rw (
         second (shellRefusal false frame) n zero,
         eq-eqb (length message) 61 (t .long),
         eq-eqb (fieldAt message 486 2) 0 (t .zero),
         ok,
         number-last k,
-      ) (contents-answer n k (contentsOf frame) (contentsAt message 0) (both .0) (contents-not-6 (contentsOf frame)) (both .1))
+      ) (contents-answer n k (contentsOf frame) (contentsAt message 0) (both .0) (contents-not-6 frame 28) (both .1))
 
   -- it does not: refused 7
   stopped : checkOk message 0 462 ≡ false → readFrame frame ≡ readMessage message
@@ -133,7 +132,7 @@ module _ (message room frame : List ℕ) (prn flags : ℕ) (r : makeRefusal mess
   stopped wrong =
       let seven : shellRefusal false frame ≡ 7 = shell-is ∙ rw wrong in
       rw (
-        leading (shellRefusal false frame) (refusalOf (contentsOf frame)) (λ z. omega arith),
+        leading (shellRefusal false frame) (refusalAt frame 28) (λ z. omega arith),
         seven,
         eq-eqb (length message) 61 (t .long),
         eq-eqb (fieldAt message 486 2) 0 (t .zero),

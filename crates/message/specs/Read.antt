@@ -9,7 +9,7 @@ use Rattle.bits.specs.Bits.{fieldAt}
 use Rattle.bits.specs.Some.{first}
 use Rattle.check24.specs.Check.{checkOk}
 use Rattle.contents.specs.Parts.{contentsAt, noContents}
-use Rattle.judge.specs.Judge.{refusalOf}
+use Rattle.judge.specs.Judge.{refusalAt}
 use Rattle.contents.specs.declared.parts.Contents.{Contents}
 use Rattle.verdict.specs.Verdict.{says, refusedBy}
 use Rattle.message.specs.declared.Reading.{Reading}
@@ -29,7 +29,7 @@ answer n c = record { said = refusedBy n; contents = pick (eqb n 0) c noContents
 
 -- the message that begins at bit `at`, its check left aside
 abbrev pub readAt : List ℕ → ℕ → Answer
-readAt s at = answer (refusalOf (contentsAt s at)) (contentsAt s at)
+readAt s at = answer (refusalAt s at) (contentsAt s at)
 
 -- 01: a message of 61 bytes: 1, 2, 7, then 8 to 12
 unfoldable pub readMessage : List ℕ → Answer
@@ -39,6 +39,6 @@ readMessage s =
     ((1, not (eqb (length s) 61))
     ∷ (2, not (eqb (fieldAt s 486 2) 0))
     ∷ (7, not (checkOk s 0 462))
-    ∷ (refusalOf (contentsAt s 0), not (eqb (refusalOf (contentsAt s 0)) 0))
+    ∷ (refusalAt s 0, not (eqb (refusalAt s 0) 0))
     ∷ []))
     (contentsAt s 0)

@@ -4,6 +4,7 @@ ghost use Rattle.message.specs.Read.{readingSays, answer, readAt, readMe
 use contents::parts::Contents;
 use contents::parts::no_contents;
 use contents::read::contents_at;
+use contents::read::end_at;
 use judge::refusal_of;
 use verdict::Verdict;
 
@@ -36,7 +37,7 @@ pub fn read_at(s: &[u8], at: u8) -> Reading
     ensures { λ r. ⌜ readingSays r ≡ readAt (now (s .entry)) at ⌝ }
 {
     let c = contents_at(s, at);
-    answer_of(refusal_of(c), c)
+    answer_of(refusal_of(end_at(s, at), c), c)
 }
 
 // A message of 61 bytes.

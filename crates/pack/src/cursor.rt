@@ -48,6 +48,10 @@ pub(crate) const ORBIT_SSR: u8 = 13;
 
 pub(crate) const PRN: u8 = 14;
 
+pub(crate) const BIASES: u8 = 15;
+
+pub(crate) const URAS: u8 = 16;
+
 // What else can be expected.
 pub(crate) const NUMBER: u8 = 21;
 
@@ -60,6 +64,10 @@ pub(crate) const ORBIT: u8 = 24;
 pub(crate) const SLOT: u8 = 25;
 
 pub(crate) const LINE_END: u8 = 26;
+
+pub(crate) const SAT: u8 = 27;
+
+pub(crate) const URA: u8 = 28;
 
 // The start of a line.
 pub(crate) fn start() -> Cursor {
@@ -119,9 +127,24 @@ fn put_key(room: &mut [u8], at: usize, k: u8) -> usize
     put_nth(
         room,
         at,
-        b"type epoch ssr iodp slots orbits sub clocks clock-epoch clock-ssr from orbit-epoch orbit-ssr prn",
+        b"type epoch ssr iodp slots orbits sub clocks clock-epoch clock-ssr from orbit-epoch orbit-ssr prn biases uras",
         k,
     )
+}
+
+// What was expected of types 3 and 5, or a key.
+fn put_more(room: &mut [u8], at: usize, fault: u8) -> usize
+    ensures { λ r. ⌜ Counts r (now (room .exit)) ⌝ }
+{
+    match fault {
+        SAT => put_bytes(
+            room,
+            at,
+            b"a slot with its modes and biases, such as 19/1/-120/4/33, or -",
+        ),
+        URA => put_bytes(room, at, b"unknown, quarter millimetres, or above"),
+        _ => put_key(room, at, fault),
+    }
 }
 
 // What was expected, in words.
@@ -135,7 +158,7 @@ pub(crate) fn put_expected(room: &mut [u8], at: usize, fault: u8) -> usize
         ORBIT => put_bytes(room, at, b"an orbit, such as 19/37/2/100/-50/20/59, or -"),
         SLOT => put_bytes(room, at, b"a slot above the one before, up to 255"),
         LINE_END => put_bytes(room, at, b"the end of the line"),
-        _ => put_key(room, at, fault),
+        _ => put_more(room, at, fault),
     }
 }
 

@@ -26,15 +26,15 @@ pub(crate) struct OrbitWord {
 }
 
 // A number of a record, where the next one begins, and whether all was well so far.
-struct Part {
-    at: usize,
-    good: bool,
-    whole: u32,
-    raw: i16,
+pub(crate) struct Part {
+    pub at: usize,
+    pub good: bool,
+    pub whole: u32,
+    pub raw: i16,
 }
 
 // Before the first part.
-fn first() -> Part {
+pub(crate) fn first() -> Part {
     Part {
         at: 0,
         good: true,
@@ -69,7 +69,7 @@ fn stroke(w: &[u8], at: usize) -> usize
 }
 
 // The next number, without a sign.
-fn whole_part(w: &[u8], p: Part) -> Part {
+pub(crate) fn whole_part(w: &[u8], p: Part) -> Part {
     let at = p.at;
     if !p.good {
         return wrong();
@@ -91,7 +91,7 @@ fn whole_part(w: &[u8], p: Part) -> Part {
 }
 
 // The next number, with or without a minus sign.
-fn raw_part(w: &[u8], p: Part) -> Part {
+pub(crate) fn raw_part(w: &[u8], p: Part) -> Part {
     let at = p.at;
     if !p.good {
         return wrong();
@@ -118,7 +118,7 @@ fn after(w: &[u8], to: usize) -> usize {
 }
 
 // Whether nothing is left of the word.
-fn is_done(p: Part) -> bool {
+pub(crate) fn is_done(p: Part) -> bool {
     p.good & (p.at == usize::MAX)
 }
 
@@ -162,13 +162,13 @@ pub(crate) fn slot_clock(w: &[u8]) -> ClockWord {
 }
 
 // A URA and whether it was well formed.
-struct UraWord {
-    good: bool,
-    ura: Ura,
+pub(crate) struct UraWord {
+    pub good: bool,
+    pub ura: Ura,
 }
 
 // The URA that a text says.
-fn ura_of(t: &[u8]) -> UraWord {
+pub(crate) fn ura_of(t: &[u8]) -> UraWord {
     if same(t, b"unknown") {
         return UraWord {
             good: true,

@@ -9,15 +9,22 @@ use crate::cursor::byte_of;
 use crate::cursor::end;
 use crate::cursor::field;
 use crate::cursor::start;
+use crate::late::bias_part;
+use crate::late::code_part;
 use crate::parts::clock_part;
 use crate::parts::mask_part;
 use crate::parts::maybe_clocks;
 use crate::parts::maybe_orbits;
 use crate::parts::orbit_part;
+use biases::no_biases;
+use contents::parts::ClockPart;
 use contents::parts::Contents;
+use contents::parts::MaskPart;
+use contents::parts::OrbitPart;
 use contents::parts::no_clocks;
 use contents::parts::no_mask;
 use contents::parts::no_orbits;
+use ura_codes::no_codes;
 
 // A line that was read.
 pub(crate) struct Line {
@@ -25,19 +32,26 @@ pub(crate) struct Line {
     pub contents: Contents,
 }
 
+// Contents of a mask, clocks and orbits, with no other part.
+fn plain(kind: u8, mask: MaskPart, clock: ClockPart, orbit: OrbitPart) -> Contents {
+    let bias = no_biases();
+    let code = no_codes();
+    Contents {
+        kind,
+        mask,
+        clock,
+        orbit,
+        bias,
+        code,
+    }
+}
+
 // The parts of type 1.
 fn line1(s: &[u8], p: Cursor) -> Line {
     let m = mask_part(s, p);
     let cursor = m.cursor;
     let mask = m.part;
-    let clock = no_clocks();
-    let orbit = no_orbits();
-    let contents = Contents {
-        kind: 1,
-        mask,
-        clock,
-        orbit,
-    };
+    let contents = plain(1, mask, no_clocks(), no_orbits());
     Line { cursor, contents }
 }
 
@@ -46,13 +60,26 @@ fn line2(s: &[u8], p: Cursor) -> Line {
     let o = orbit_part(s, p, EPOCH, SSR, 6, 6);
     let cursor = o.cursor;
     let orbit = o.part;
+    let contents = plain(2, no_mask(), no_clocks(), orbit);
+    Line { cursor, contents }
+}
+
+// The parts of type 3.
+fn line3(s: &[u8], p: Cursor) -> Line {
+    let b = bias_part(s, p);
+    let cursor = b.cursor;
+    let bias = b.part;
     let mask = no_mask();
     let clock = no_clocks();
+    let orbit = no_orbits();
+    let code = no_codes();
     let contents = Contents {
-        kind: 2,
+        kind: 3,
         mask,
         clock,
         orbit,
+        bias,
+        code,
     };
     Line { cursor, contents }
 }
@@ -62,13 +89,26 @@ fn line4(s: &[u8], p: Cursor) -> Line {
     let k = clock_part(s, p);
     let cursor = k.cursor;
     let clock = k.part;
+    let contents = plain(4, no_mask(), clock, no_orbits());
+    Line { cursor, contents }
+}
+
+// The parts of type 5.
+fn line5(s: &[u8], p: Cursor) -> Line {
+    let u = code_part(s, p);
+    let cursor = u.cursor;
+    let code = u.part;
     let mask = no_mask();
+    let clock = no_clocks();
     let orbit = no_orbits();
+    let bias = no_biases();
     let contents = Contents {
-        kind: 4,
+        kind: 5,
         mask,
         clock,
         orbit,
+        bias,
+        code,
     };
     Line { cursor, contents }
 }
@@ -81,27 +121,13 @@ fn line67(s: &[u8], p: Cursor, kind: u8) -> Line {
     let cursor = o.cursor;
     let clock = k.part;
     let orbit = o.part;
-    let mask = no_mask();
-    let contents = Contents {
-        kind,
-        mask,
-        clock,
-        orbit,
-    };
+    let contents = plain(kind, no_mask(), clock, orbit);
     Line { cursor, contents }
 }
 
 // A type with no parts, or one that is not written.
 fn bare(cursor: Cursor, kind: u8) -> Line {
-    let mask = no_mask();
-    let clock = no_clocks();
-    let orbit = no_orbits();
-    let contents = Contents {
-        kind,
-        mask,
-        clock,
-        orbit,
-    };
+    let contents = plain(kind, no_mask(), no_clocks(), no_orbits());
     Line { cursor, contents }
 }
 
@@ -110,7 +136,9 @@ fn parts(s: &[u8], p: Cursor, kind: u8) -> Line {
     match kind {
         1 => line1(s, p),
         2 => line2(s, p),
+        3 => line3(s, p),
         4 => line4(s, p),
+        5 => line5(s, p),
         6 => line67(s, p, 6),
         7 => line67(s, p, 7),
         _ => bare(p, kind),

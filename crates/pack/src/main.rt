@@ -5,13 +5,16 @@
 //
 // All of a file is written or nothing. What cannot be read twice is written as it is read, up to the first faulty line.
 mod clocks;
+mod codes;
 mod cursor;
 mod faults;
 mod fields;
+mod late;
 mod lines;
 mod orbits;
 mod packing;
 mod parts;
+mod sats;
 mod slots;
 
 ghost use Rattle.console.specs.Lines.{Inside};

@@ -16,62 +16,58 @@ use Rattle.slots.specs.Slots.{slotNamed, setCount, nthSet}
 use Rattle.slots.proofs.SlotLaws.{nth-none}
 use Rattle.records.specs.declared.orbit.Orbit.{Orbit}
 use Rattle.records.specs.declared.clock.Clock.{Clock}
+use Rattle.ura_codes.specs.declared.CodePart.{CodePart}
 use Rattle.contents.specs.declared.parts.ClockPart.{ClockPart}
 use Rattle.contents.specs.declared.parts.OrbitPart.{OrbitPart}
 use Rattle.contents.specs.declared.parts.Contents.{Contents}
 use Rattle.layout.proofs.LayoutLaws.{pick-all}
-use Rattle.lent.specs.Held.{replaceHelds, replaceHeld, targetOf}
-use Rattle.lent.proofs.HeldLaws.{replace-named, target-replaced, AllHeld}
-use Rattle.lent.proofs.PastLaws.{store-past}
+use Rattle.lookback.specs.Store.{inOrder}
+use Rattle.lent.proofs.HeldLaws.{AllHeld}
 use Rattle.mask_bits.proofs.PlaceLaws.{no-more}
 use Rattle.held_clocks.specs.declared.HeldClock.{HeldClock}
 use Rattle.held_clocks.proofs.ClockLaws.{ClocksHeld}
 use Rattle.held_orbits.specs.declared.HeldOrbit.{HeldOrbit}
 use Rattle.held_orbits.proofs.OrbitLaws.{OrbitsHeld}
+use Rattle.held_codes.specs.declared.HeldCode.{HeldCode}
 use Rattle.held_mask.specs.Mask.{HeldMask, heldMask}
-use Rattle.places.specs.Keeps.{heldOrbit, heldClock, bySlot, byPlace, maskOf, hasOrbits, orbitsOf, needsMask, firstPlace, placeToCheck, otherMask, asPlace, clocksOf, placeNumber, placeRefusal}
+use Rattle.places.specs.Keeps.{heldOrbit, heldClock, bySlot, byPlace, maskOf, hasOrbits, orbitsOf, needsMask, firstPlace, placeToCheck, otherMask, asPlace, clocksOf, placeNumber, placeRefusal, heldCode, firstCode, codesOf, codeRefusal, maskRefusal}
 
 -- an array of records in a part is as long as its relation says
 pub length-mapped : (X Y : Type 0) (f : X → Y) (l : List X) (n : ℕ) → length (map f l) ≡ n → length l ≡ n
 length-mapped X Y f l n e = sym (length-map l f) ∙ e
 
--- ---- a walk over records, a turn and its end
-module _ {R A : Type 0} (replaces : A → A → Bool) (absent : A) (of : List ℕ → A) (bytes : A → List ℕ) (w : ℕ) (long : (h : A) → length (bytes h) ≡ w) (st : ℕ)
-    (f : R → A) (rs : List R) (j : ℕ) (d : R) (s : List ℕ) where
-  pub slot-step : (slot : R → ℕ) → j < length rs →
-      replaceHelds replaces of bytes w s st (bySlot slot f (drop j rs)) ≡ replaceHelds replaces of bytes w (replaceHeld replaces of bytes w s st (slotNamed (slot (getD rs j d))) (f (getD rs j d))) st (bySlot slot f (drop (j + 1) rs))
-  unfolding replaceHelds bySlot
-  slot-step slot h = rw (drop-one rs j d h, replace-named replaces absent of bytes w long s st (slot (getD rs j d)) (f (getD rs j d)))
+-- ---- a walk over records, a turn and its end; what is done with each is a step
+module _ {R A : Type 0} (step : List ℕ → ℕ → A → List ℕ) (f : R → A) (rs : List R) (j : ℕ) (d : R) (s : List ℕ) where
+  pub slot-step : (slot : R → ℕ) → ((x : ℕ) (h : A) → step s (slotNamed x) h ≡ step s x h) → j < length rs →
+      inOrder step s (bySlot slot f (drop j rs)) ≡ inOrder step (step s (slotNamed (slot (getD rs j d))) (f (getD rs j d))) (bySlot slot f (drop (j + 1) rs))
+  unfolding inOrder bySlot
+  slot-step slot same h = rw (drop-one rs j d h, same (slot (getD rs j d)) (f (getD rs j d)))
 
-  pub slot-end : (slot : R → ℕ) → length rs ≤ j → replaceHelds replaces of bytes w s st (bySlot slot f (drop j rs)) ≡ s
-  unfolding replaceHelds bySlot
+  pub slot-end : (slot : R → ℕ) → length rs ≤ j → inOrder step s (bySlot slot f (drop j rs)) ≡ s
+  unfolding inOrder bySlot
   slot-end slot h = rw (drop-of-length-le rs h)
 
   pub place-step : (bits : List Bool) (n : ℕ) → j < length rs →
-      replaceHelds replaces of bytes w s st (byPlace f bits (drop j rs) n) ≡ replaceHelds replaces of bytes w (replaceHeld replaces of bytes w s st (nthSet bits n) (f (getD rs j d))) st (byPlace f bits (drop (j + 1) rs) (n + 1))
-  unfolding replaceHelds byPlace
+      inOrder step s (byPlace f bits (drop j rs) n) ≡ inOrder step (step s (nthSet bits n) (f (getD rs j d))) (byPlace f bits (drop (j + 1) rs) (n + 1))
+  unfolding inOrder byPlace
   place-step bits n h = rw (drop-one rs j d h)
 
-  pub place-end : (bits : List Bool) (n : ℕ) → length rs ≤ j → replaceHelds replaces of bytes w s st (byPlace f bits (drop j rs) n) ≡ s
-  unfolding replaceHelds byPlace
+  pub place-end : (bits : List Bool) (n : ℕ) → length rs ≤ j → inOrder step s (byPlace f bits (drop j rs) n) ≡ s
+  unfolding inOrder byPlace
   place-end bits n h = rw (drop-of-length-le rs h)
 
--- a record that names nothing is put nowhere, and from the first filler on no record names anything
-module _ {A : Type 0} (replaces : A → A → Bool) (absent : A) (of : List ℕ → A) (bytes : A → List ℕ) (w : ℕ) (long : (h : A) → length (bytes h) ≡ w) (st : ℕ) (s : List ℕ) where
-  replace-none : (h : A) → replaceHeld replaces of bytes w s st 0 h ≡ s
-  unfolding targetOf
-  replace-none h = sym (target-replaced replaces absent of bytes w long s st 0 h (omega arith)) ∙ store-past s (length s) (bytes h) (omega arith)
+-- from the first filler on no record names anything, and a step that names nothing does nothing
+pub place-filler : {R A : Type 0} (step : List ℕ → ℕ → A → List ℕ) (f : R → A) (rs : List R) (s : List ℕ) (bits : List Bool) (n : ℕ) → ((h : A) → step s 0 h ≡ s) →
+    1 ≤ n → nthSet bits n ≡ 0 → inOrder step s (byPlace f bits rs n) ≡ s
+unfolding inOrder byPlace
+place-filler step f [] s bits n idle l e = refl
+place-filler step f (r ∷ rs) s bits n idle l e =
+    rw (e, idle (f r)) (place-filler step f rs s bits (n + 1) idle (omega arith) (no-more bits 1 n 1 (omega arith) l e))
 
-  pub place-filler : {R : Type 0} (f : R → A) (rs : List R) (bits : List Bool) (n : ℕ) → 1 ≤ n → nthSet bits n ≡ 0 → replaceHelds replaces of bytes w s st (byPlace f bits rs n) ≡ s
-  unfolding replaceHelds byPlace
-  place-filler f [] bits n l e = refl
-  place-filler f (r ∷ rs) bits n l e =
-      rw (e, replace-none (f r)) (place-filler f rs bits (n + 1) (omega arith) (no-more bits 1 n 1 (omega arith) l e))
-
--- nothing is put where nothing is named
-pub replace-no : {A : Type 0} (replaces : A → A → Bool) (of : List ℕ → A) (bytes : A → List ℕ) (w st : ℕ) (s : List ℕ) → replaceHelds replaces of bytes w s st [] ≡ s
-unfolding replaceHelds
-replace-no replaces of bytes w st s = refl
+-- nothing is done where nothing is named
+pub order-none : {A : Type 0} (step : List ℕ → ℕ → A → List ℕ) (s : List ℕ) → inOrder step s [] ≡ s
+unfolding inOrder
+order-none step s = refl
 
 -- ---- the names of a part, by the type
 module _ (m : HeldMask) (kind : ℕ) (p : ClockPart) where
@@ -100,6 +96,33 @@ module _ (kind : ℕ) (p : OrbitPart) where
   unfolding orbitsOf
   orbits-none e = rw e
 
+module _ (m : HeldMask) (kind : ℕ) (u : CodePart) where
+  pub codes-some : kind ≡ 5 → codesOf m kind u ≡ byPlace heldCode (m .bits) (u .codes) (firstCode u)
+  unfolding codesOf
+  codes-some e = rw (eq-eqb kind 5 e)
+
+  pub codes-none : kind ≢ 5 → codesOf m kind u ≡ []
+  unfolding codesOf
+  codes-none n = rw (ne-eqb kind 5 n)
+
+-- a type 3 names nothing, and a type 5 codes alone
+module _ (m : HeldMask) (kind : ℕ) (p : ClockPart) (o : OrbitPart) where
+  pub biases-clocks : kind ≡ 3 → clocksOf m kind p ≡ []
+  unfolding clocksOf
+  biases-clocks e = rw e
+
+  pub biases-orbits : kind ≡ 3 → orbitsOf kind o ≡ []
+  unfolding orbitsOf
+  biases-orbits e = rw e
+
+  pub codes-clocks : kind ≡ 5 → clocksOf m kind p ≡ []
+  unfolding clocksOf
+  codes-clocks e = rw e
+
+  pub codes-orbits : kind ≡ 5 → orbitsOf kind o ≡ []
+  unfolding orbitsOf
+  codes-orbits e = rw e
+
 -- ---- a type 1 brings a mask and nothing else; no other type brings one
 module _ (c : Contents) where
   pub mask-1 : c .kind ≡ 1 → maskOf c ≡ some (heldMask (c .mask))
@@ -122,9 +145,18 @@ module _ (c : Contents) where
     unfolding clocksOf
     mask-clocks m = rw k
 
-    pub mask-free : (m : HeldMask) → placeRefusal m (c .kind) (c .clock) ≡ 0
+    pub mask-codes : (m : HeldMask) → codesOf m (c .kind) (c .code) ≡ []
+    unfolding codesOf
+    mask-codes m = rw k
+
+    pub mask-free : (m : HeldMask) → maskRefusal m c ≡ 0
     unfolding placeRefusal
     mask-free m = rw k
+
+-- 02, CR 2: a type 3 needs no mask
+pub biases-free : (c : Contents) → c .kind ≡ 3 → (m : HeldMask) → maskRefusal m c ≡ 0
+unfolding placeRefusal
+biases-free c k m = rw k
 
 -- ---- 14, 15 and 19, in the order in which they are looked for
 module _ (m : HeldMask) (kind : ℕ) (p : ClockPart) where
@@ -133,28 +165,18 @@ module _ (m : HeldMask) (kind : ℕ) (p : ClockPart) where
   place-free e = rw e
 
   module _ (n : needsMask kind p ≡ true) where
-    pub place-absent : m .has ≡ false → placeRefusal m kind p ≡ 14
+    pub place-other : otherMask m (p .ssr) (p .iodp) ≡ true → placeRefusal m kind p ≡ 14
     unfolding placeRefusal
-    place-absent h = rw (n, h)
+    place-other o = rw (n, o)
 
-    module _ (h : m .has ≡ true) where
-      pub place-ssr : m .ssr ≢ p .ssr → placeRefusal m kind p ≡ 14
+    module _ (o : otherMask m (p .ssr) (p .iodp) ≡ false) where
+      pub place-past : setCount (m .bits) < placeToCheck kind p → placeRefusal m kind p ≡ placeNumber kind
       unfolding placeRefusal
-      place-ssr d = rw (n, h, ne-eqb (m .ssr) (p .ssr) d)
+      place-past l = rw (n, o, lt-ltb _ _ l)
 
-      module _ (s : m .ssr ≡ p .ssr) where
-        pub place-iodp : m .iodp ≢ p .iodp → placeRefusal m kind p ≡ 14
-        unfolding placeRefusal
-        place-iodp d = rw (n, h, eq-eqb (m .ssr) (p .ssr) s, ne-eqb (m .iodp) (p .iodp) d)
-
-        module _ (i : m .iodp ≡ p .iodp) where
-          pub place-past : setCount (m .bits) < placeToCheck kind p → placeRefusal m kind p ≡ placeNumber kind
-          unfolding placeRefusal
-          place-past l = rw (n, h, eq-eqb (m .ssr) (p .ssr) s, eq-eqb (m .iodp) (p .iodp) i, lt-ltb _ _ l)
-
-          pub place-good : placeToCheck kind p ≤ setCount (m .bits) → placeRefusal m kind p ≡ 0
-          unfolding placeRefusal
-          place-good l = rw (n, h, eq-eqb (m .ssr) (p .ssr) s, eq-eqb (m .iodp) (p .iodp) i, le-ltb _ _ l)
+      pub place-good : placeToCheck kind p ≤ setCount (m .bits) → placeRefusal m kind p ≡ 0
+      unfolding placeRefusal
+      place-good l = rw (n, o, le-ltb _ _ l)
 
   -- it is none of a frame's own numbers
   pub place-own : placeRefusal m kind p ≢ 6
@@ -163,7 +185,47 @@ module _ (m : HeldMask) (kind : ℕ) (p : ClockPart) where
       let past = needsMask kind p && ltb (setCount (m .bits)) (placeToCheck kind p) in
       let number = pick-all (λ (n : ℕ). n ≢ 6) (eqb kind 4) 15 19 (omega arith) (omega arith) in
       let second = pick-all (λ (n : ℕ). n ≢ 6) past (placeNumber kind) 0 number (omega arith) in
-      pick-all (λ (n : ℕ). n ≢ 6) (needsMask kind p && otherMask m p) 14 (pick past (placeNumber kind) 0) (omega arith) second
+      pick-all (λ (n : ℕ). n ≢ 6) (needsMask kind p && otherMask m (p .ssr) (p .iodp)) 14 (pick past (placeNumber kind) 0) (omega arith) second
+
+-- of a type 5
+module _ (m : HeldMask) (u : CodePart) where
+  pub code-other : otherMask m (u .ssr) (u .iodp) ≡ true → codeRefusal m u ≡ 14
+  unfolding codeRefusal
+  code-other o = rw o
+
+  module _ (o : otherMask m (u .ssr) (u .iodp) ≡ false) where
+    pub code-past : ltb (setCount (m .bits)) (firstCode u) ≡ true → codeRefusal m u ≡ 15
+    unfolding codeRefusal
+    code-past l = rw (o, l)
+
+    pub code-good : ltb (setCount (m .bits)) (firstCode u) ≡ false → codeRefusal m u ≡ 0
+    unfolding codeRefusal
+    code-good l = rw (o, l)
+
+  -- it is none that says more than its number
+  code-plain : (n : ℕ) → n ≢ 14 → n ≢ 15 → n ≢ 0 → codeRefusal m u ≢ n
+  unfolding codeRefusal
+  code-plain n a b z =
+      let past = ltb (setCount (m .bits)) (firstCode u) in
+      let second = pick-all (λ (k : ℕ). k ≢ n) past 15 0 (λ e. b (sym e)) (λ e. z (sym e)) in
+      pick-all (λ (k : ℕ). k ≢ n) (otherMask m (u .ssr) (u .iodp)) 14 (pick past 15 0) (λ e. a (sym e)) second
+
+  pub code-own : codeRefusal m u ≢ 6
+  code-own = code-plain 6 (omega arith) (omega arith) (omega arith)
+
+  pub code-alone : codeRefusal m u ≢ 19
+  code-alone = code-plain 19 (omega arith) (omega arith) (omega arith)
+
+-- of contents
+module _ (m : HeldMask) (c : Contents) where
+  pub refusal-5 : c .kind ≡ 5 → maskRefusal m c ≡ codeRefusal m (c .code)
+  refusal-5 k = rw (eq-eqb (c .kind) 5 k)
+
+  pub refusal-other : c .kind ≢ 5 → maskRefusal m c ≡ placeRefusal m (c .kind) (c .clock)
+  refusal-other k = rw (ne-eqb (c .kind) 5 k)
+
+  pub refusal-own : maskRefusal m c ≢ 6
+  refusal-own = pick-all (λ (n : ℕ). n ≢ 6) (eqb (c .kind) 5) (codeRefusal m (c .code)) (placeRefusal m (c .kind) (c .clock)) (code-own m (c .code)) (place-own m (c .kind) (c .clock))
 
 -- ---- a place that no satellite has
 pub count-le : (bs : List Bool) → setCount bs ≤ length bs
@@ -234,4 +296,12 @@ orbits-held kind p = go (hasOrbits kind)
   where
     go : (b : Bool) → OrbitsHeld (pick b (bySlot (λ (o : Orbit). o .slot) (heldOrbit (p .epoch) (p .ssr)) (p .orbits)) [])
     go true = slot-held (λ (h : HeldOrbit). h .has) (heldOrbit (p .epoch) (p .ssr)) (λ o. refl) (λ (o : Orbit). o .slot) (p .orbits)
+    go false = tt
+
+pub codes-held : (m : HeldMask) (kind : ℕ) (u : CodePart) → AllHeld (λ (h : HeldCode). h .has) (codesOf m kind u)
+unfolding codesOf
+codes-held m kind u = go (eqb kind 5)
+  where
+    go : (b : Bool) → AllHeld (λ (h : HeldCode). h .has) (pick b (byPlace heldCode (m .bits) (u .codes) (firstCode u)) [])
+    go true = place-held (λ (h : HeldCode). h .has) heldCode (λ k. refl) (m .bits) (u .codes) (firstCode u)
     go false = tt

@@ -20,14 +20,15 @@ use Rattle.records.specs.Orbit.{blankOrbit}
 use Rattle.records.specs.declared.orbit.Orbit.{Orbit}
 use Rattle.records.specs.declared.clock.Clock.{Clock}
 use Rattle.slots.proofs.SlotLaws.{nth-none, nth-rises}
-use Rattle.judge.specs.Judge.{isSame, isAgain, clockSlots, orbitSlots}
+use Rattle.judge.specs.Judge.{isSame, isAgain, twice, clockSlots, orbitSlots, satSlots}
+use Rattle.ura_codes.specs.declared.CodePart.{CodePart}
 use Rattle.contents.specs.declared.parts.ClockPart.{ClockPart}
 use Rattle.contents.specs.declared.parts.OrbitPart.{OrbitPart}
 use Rattle.frame.specs.Frame.{contentsOf, foreignTo, refusalWith}
-use Rattle.frame.proofs.FrameLaws.{neither, parts-zero, sound, clocks-long, orbits-long}
+use Rattle.frame.proofs.FrameLaws.{neither, parts-zero, sound-at, clocks-long, orbits-long}
 use Rattle.lookback.proofs.ReplaceLaws.{times}
 use Rattle.held_mask.specs.Mask.{HeldMask}
-use Rattle.places.specs.Keeps.{heldOrbit, heldClock, bySlot, byPlace, hasOrbits, orbitsOf, needsMask, firstPlace, clocksOf, maskRefusal, refusalUnder}
+use Rattle.places.specs.Keeps.{heldOrbit, heldClock, heldCode, bySlot, byPlace, hasOrbits, orbitsOf, needsMask, firstPlace, firstCode, clocksOf, codesOf, maskRefusal, refusalUnder}
 
 -- ---- by slot: from 12
 module _ {R A : Type 0} (slot : R → ℕ) (f : R → A) where
@@ -86,7 +87,8 @@ module _ (prn : ℕ) (m : HeldMask) (f : List ℕ) (taken : refusalUnder prn m f
   none-twice =
       let n = neither (refusalWith (foreignTo prn f) f) (maskRefusal m (contentsOf f)) taken in
       let p = parts-zero (foreignTo prn f) f (n .0) in
-      none-holds (anyOf isAgain (clockSlots (contentsOf f .clock .clocks))) (anyOf isAgain (orbitSlots (contentsOf f .orbit .orbits))) (sound (contentsOf f) (p .1) .once)
+      none-holds (anyOf isAgain (clockSlots (contentsOf f .clock .clocks))) (anyOf isAgain (orbitSlots (contentsOf f .orbit .orbits)))
+      (none-holds (twice (contentsOf f .clock) (contentsOf f .orbit)) (anyOf isAgain (satSlots (contentsOf f .bias .sats))) (sound-at f 28 (p .1) .once) .0)
 
   pub orbit-once : times s (orbitsOf (contentsOf f .kind) (contentsOf f .orbit)) ≤ 1
   unfolding orbitsOf orbitSlots times
@@ -110,3 +112,12 @@ module _ (prn : ℕ) (m : HeldMask) (f : List ℕ) (taken : refusalUnder prn m f
       go true b n p e = again-once (λ (k : Clock). k .slot) (heldClock false (p .epoch) (p .ssr)) s l (p .clocks) e
       go false true n p e = place-once (heldClock true (p .epoch) (p .ssr)) (m .bits) s l (take (p .count) (p .clocks)) n
       go false false n p e = omega arith
+
+-- a type 5's codes come by place: at most one names a slot, whether or not its frame is accepted
+pub code-once : (m : HeldMask) (kind : ℕ) (u : CodePart) (s : ℕ) → 1 ≤ s → times s (codesOf m kind u) ≤ 1
+unfolding codesOf times
+code-once m kind u s l = go (eqb kind 5)
+  where
+    go : (b : Bool) → times s (pick b (byPlace heldCode (m .bits) (u .codes) (firstCode u)) []) ≤ 1
+    go true = place-once heldCode (m .bits) s l (u .codes) (firstCode u)
+    go false = omega arith

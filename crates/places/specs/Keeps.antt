@@ -10,6 +10,7 @@ use Rattle.bits.specs.Some.{first}
 use Rattle.slots.specs.Slots.{setCount, nthSet}
 use Rattle.records.specs.declared.orbit.Orbit.{Orbit}
 use Rattle.records.specs.declared.clock.Clock.{Clock}
+use Rattle.ura_codes.specs.declared.CodePart.{CodePart}
 use Rattle.contents.specs.declared.parts.ClockPart.{ClockPart}
 use Rattle.contents.specs.declared.parts.OrbitPart.{OrbitPart}
 use Rattle.contents.specs.declared.parts.Contents.{Contents}
@@ -18,6 +19,7 @@ use Rattle.frame.specs.Frame.{contentsOf, foreignTo, refusalWith, frameSays}
 use Rattle.lookback.specs.Store.{Named}
 use Rattle.held_clocks.specs.declared.HeldClock.{HeldClock}
 use Rattle.held_orbits.specs.declared.HeldOrbit.{HeldOrbit}
+use Rattle.held_codes.specs.declared.HeldCode.{HeldCode}
 use Rattle.held_mask.specs.Mask.{HeldMask, heldMask}
 
 -- an orbit record as it is kept, with the epoch and IOD SSR of its part
@@ -82,8 +84,8 @@ clocksOf m kind p =
     [])
 
 -- 01, 14: no mask in force, or IOD SSR or IODP differ from it
-abbrev pub otherMask : HeldMask → ClockPart → Bool
-otherMask m p = not (m .has && eqb (m .ssr) (p .ssr) && eqb (m .iodp) (p .iodp))
+abbrev pub otherMask : HeldMask → ℕ → ℕ → Bool
+otherMask m ssr iodp = not (m .has && eqb (m .ssr) ssr && eqb (m .iodp) iodp)
 
 -- 01, 15, and 02, CR 1, 19: type 4's first place, or type 6's last place
 abbrev pub placeToCheck : ℕ → ClockPart → ℕ
@@ -97,7 +99,7 @@ placeNumber kind = pick (eqb kind 4) 15 19
 unfoldable pub placeRefusal : HeldMask → ℕ → ClockPart → ℕ
 placeRefusal m kind p =
     first
-    ((14, needsMask kind p && otherMask m p)
+    ((14, needsMask kind p && otherMask m (p .ssr) (p .iodp))
     ∷ (placeNumber kind, needsMask kind p && ltb (setCount (m .bits)) (placeToCheck kind p))
     ∷ [])
 
@@ -105,9 +107,25 @@ placeRefusal m kind p =
 unfoldable pub placeSays : HeldMask → ℕ → List ℕ
 placeSays m n = pick (eqb n 19) (19 ∷ setCount (m .bits) ∷ []) (refusedBy n)
 
+-- 02, CR 2: a URA code of a type 5 as it is kept
+abbrev pub heldCode : ℕ → HeldCode
+heldCode code = record { has = true; code = code }
+
+-- 02, CR 2: in type 5, record j (1 to 70) has place 70 × sub-type + j. This is record 1's
+abbrev pub firstCode : CodePart → ℕ
+firstCode u = 70 * u .sub + 1
+
+-- 02, CR 2: the codes of a type 5 with the slots that they name by their places in the mask m
+unfoldable pub codesOf : HeldMask → ℕ → CodePart → List (Named HeldCode)
+codesOf m kind u = pick (eqb kind 5) (byPlace heldCode (m .bits) (u .codes) (firstCode u)) []
+
+-- 02, CR 2: type 5 obeys 14, and 15 by the first place of its sub-type
+unfoldable pub codeRefusal : HeldMask → CodePart → ℕ
+codeRefusal m u = first ((14, otherMask m (u .ssr) (u .iodp)) ∷ (15, ltb (setCount (m .bits)) (firstCode u)) ∷ [])
+
 -- 14, 15 and 19 of contents
 abbrev pub maskRefusal : HeldMask → Contents → ℕ
-maskRefusal m c = placeRefusal m (c .kind) (c .clock)
+maskRefusal m c = pick (eqb (c .kind) 5) (codeRefusal m (c .code)) (placeRefusal m (c .kind) (c .clock))
 
 -- 01, Refusal numbers: 1, 3 to 13 of the frame for the ledger's PRN, then 14, 15 and 19 under the mask m
 unfoldable pub refusalUnder : ℕ → HeldMask → List ℕ → ℕ

@@ -1,14 +1,15 @@
-// What one frame does under the mask in force: whether clocks by place are refused (14, 15, 19), and how records are kept.
+// What one frame does under the mask in force: whether clocks or codes by place are refused (14, 15, 19), and how records are kept.
 ghost use mathlib.Core.Path.{_≡_};
 ghost use Rattle.verdict.specs.Verdict.{says};
 ghost use Rattle.held_mask.specs.Mask.{maskAt};
-ghost use Rattle.places.specs.Keeps.{heldOrbit, heldClock, needsMask, asPlace, firstPlace, placeToCheck, placeNumber, placeRefusal, placeSays};
+ghost use Rattle.places.specs.Keeps.{heldOrbit, heldClock, needsMask, asPlace, firstPlace, otherMask, placeToCheck, placeNumber, placeRefusal, placeSays, firstCode, codeRefusal};
 use contents::parts::ClockPart;
 use held_clocks::HeldClock;
 use held_orbits::HeldOrbit;
 use records::clock::Clock;
 use records::orbit::Orbit;
 use slots::Place;
+use ura_codes::CodePart;
 use verdict::Verdict;
 use verdict::verdict_of;
 
@@ -62,6 +63,14 @@ fn place_number(kind: u8) -> u8
     if kind == 4 { 15 } else { 19 }
 }
 
+// Whether no mask is held, or one of another IOD SSR or IODP.
+fn is_other_mask(t: &[u8], ssr: u8, iodp: u8) -> bool
+    ensures { λ r. ⌜ r ≡ otherMask (maskAt (now (t .entry))) ssr iodp ⌝ }
+{
+    let has = held_mask::has_mask(t);
+    !(has & (held_mask::mask_ssr(t) == ssr) & (held_mask::mask_iodp(t) == iodp))
+}
+
 // Why clocks by place are refused under the mask held: 14, 15 or 19; 0 if they are not.
 fn place_refusal(t: &[u8], kind: u8, p: ClockPart) -> u8
     ensures { λ r. ⌜ r ≡ placeRefusal (maskAt (now (t .entry))) kind p ⌝ }
@@ -69,13 +78,7 @@ fn place_refusal(t: &[u8], kind: u8, p: ClockPart) -> u8
     if !needs_mask(kind, p) {
         return 0;
     }
-    if !held_mask::has_mask(t) {
-        return 14;
-    }
-    if held_mask::mask_ssr(t) != p.ssr {
-        return 14;
-    }
-    if held_mask::mask_iodp(t) != p.iodp {
+    if is_other_mask(t, p.ssr, p.iodp) {
         return 14;
     }
     if mask_bits::is_past_last(t, place_to_check(kind, p)) {
@@ -93,6 +96,26 @@ pub fn place_verdict(t: &[u8], kind: u8, p: ClockPart) -> Verdict
         return Verdict::Places(mask_bits::set_count(t));
     }
     verdict_of(n)
+}
+
+// The place of the first code of a type 5.
+pub fn first_code(u: CodePart) -> Place
+    ensures { λ r. ⌜ r .0 ≡ firstCode u ⌝ }
+{
+    Place(70 * (u.sub as u16) + 1)
+}
+
+// Why the codes of a type 5 are refused under the mask held: 14 or 15; 0 if they are not.
+pub fn code_refusal(t: &[u8], u: CodePart) -> u8
+    ensures { λ r. ⌜ r ≡ codeRefusal (maskAt (now (t .entry))) u ⌝ }
+{
+    if is_other_mask(t, u.ssr, u.iodp) {
+        return 14;
+    }
+    if mask_bits::is_past_last(t, first_code(u)) {
+        return 15;
+    }
+    0
 }
 
 // A clock record as it is kept.

@@ -25,6 +25,7 @@ use flat_subframe2::read_fields;
 use frame::is_prn;
 use frame::read_frame;
 use from_flat::contents_of;
+use held_mask::LEDGER_SIZE;
 use joining::join;
 use ledger::open::make_fresh;
 use ledger::replay::frame_count;
@@ -43,11 +44,8 @@ use writing::write;
 pub mod sheet;
 pub mod tables;
 
-// The bytes of a ledger.
-pub(crate) const LEDGER_SIZE: usize = 9216;
-
 // The bytes of contents.
-const CONTENTS_SIZE: usize = 265;
+const CONTENTS_SIZE: usize = 516;
 
 // The bytes of a row.
 pub(crate) const ROW_SIZE: usize = 27;

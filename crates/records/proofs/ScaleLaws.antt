@@ -1,12 +1,14 @@
--- Raw numbers scaled. 01, Message fields: "A value never lies beyond 262,144 either way".
+-- Raw numbers scaled. 01, Message fields: "A value never lies beyond 262,144 either way". 02, CR 2: a bias is raw × 17 mm, of any 12 bits.
 use mathlib.Core.Path.{_≡_, refl}
+use mathlib.Core.Bool.{true}
 use mathlib.Core.List.{List}
-use Prim.Native.Nat.{ℕ, zero, suc, _-_, _*_, _^_, _≤_, _<_}
+use Prim.Native.Nat.{ℕ, zero, suc, _-_, _*_, _^_, _+_, _≤_, _<_}
 use native.Mathlib.Nat.{mul-le-mul}
 use native.Mathlib.Omega.{arith}
 use lib.Dec.{lit<}
+use borrow.Author.Tests.{le-leb}
 use lib.IntN.{ℤ, pos, negsuc, negℤ, natAbs, _*ℤ_}
-use lib.Signed.{mag}
+use lib.Signed.{mag, leZ}
 use mir.Syntax.{w16, w32}
 use mir.Val.{SFits}
 use Rattle.records.specs.Signed.{signedAt}
@@ -48,6 +50,17 @@ read-within-16 s at = within-16 (signedAt 15 s at) (signed-in-bits 15 (lit< tt) 
 
 pub read-within-64 : (s : List ℕ) (at : ℕ) → natAbs (signedAt 13 s at *ℤ pos 64) ≤ 262144
 read-within-64 s at = within-64 (signedAt 13 s at) (signed-in-bits 13 (lit< tt) s at)
+
+-- a bias: 12 bits, times 17; from -2048 x 17 to 2047 x 17 mm
+pub within-17 : (z : ℤ) → InBits 12 z → (leZ (negsuc 34815) (z *ℤ pos 17) ≡ true) × (leZ (z *ℤ pos 17) (pos 34799) ≡ true)
+within-17 (pos x) h = (refl, le-leb (x * 17) 34799 (omega arith))
+within-17 (negsuc m) h =
+    let e : suc m * 17 ≡ suc (m * 17 + 16) = omega arith in
+    rw e (le-leb (m * 17 + 16) 34815 (omega arith), refl)
+
+-- so any 12 bits give -34816 to 34799 mm
+pub read-within-17 : (s : List ℕ) (at : ℕ) → (leZ (negsuc 34815) (signedAt 12 s at *ℤ pos 17) ≡ true) × (leZ (signedAt 12 s at *ℤ pos 17) (pos 34799) ≡ true)
+read-within-17 s at = within-17 (signedAt 12 s at) (signed-in-bits 12 (lit< tt) s at)
 
 -- in the code: 16 bits are some of 32, and a product by up to 64 fits 32
 pub wider : (z : ℤ) → SFits w16 z → SFits w32 z

@@ -7,12 +7,15 @@ use lib.Dec.{eqb, leb}
 use lib.IntN.{ℤ, pos, negsuc, _*ℤ_}
 use Rattle.bits.specs.Pick.{pick}
 use Rattle.slots.specs.Slots.{satelliteOf}
+use Rattle.ura.specs.Ura.{uraOf}
 use Rattle.ura.specs.declared.Ura.{Ura}
 use Rattle.ura.specs.declared.Ura.the-variants.{Unknown, Quarters, Above}
 use Rattle.held_clocks.specs.Clocks.{heldClockAt}
 use Rattle.held_orbits.specs.Orbits.{heldOrbitAt}
+use Rattle.held_codes.specs.Codes.{heldCodeAt}
 use Rattle.held_clocks.specs.declared.HeldClock.{HeldClock}
 use Rattle.held_orbits.specs.declared.HeldOrbit.{HeldOrbit}
+use Rattle.held_codes.specs.declared.HeldCode.{HeldCode}
 use Rattle.mask_bits.specs.Bits.{bitAtSlot}
 use Rattle.held_mask.specs.Mask.{HeldMask, maskAt}
 use Rattle.row.specs.declared.Row.{Row}
@@ -67,9 +70,28 @@ rowFrom slot o k =
 unfoldable pub rowOf : HeldMask → HeldOrbit → HeldClock → ℕ → ℕ → Option Row
 rowOf m o k issue slot = pick (qualifies m o k issue slot) (some (rowFrom slot o k)) none
 
+-- 02, CR 2: an orbit with the URA of the code that replaces its own, where there is one
+unfoldable pub coded : HeldOrbit → HeldCode → HeldOrbit
+coded o k =
+    record {
+      has = o .has;
+      epoch = o .epoch;
+      ssr = o .ssr;
+      iodn = o .iodn;
+      corr = o .corr;
+      radial = o .radial;
+      along = o .along;
+      cross = o .cross;
+      ura = pick (k .has) (uraOf (k .code)) (o .ura);
+    }
+
+-- the orbit of a slot by what a ledger's bytes hold, with the replaced code
+abbrev pub codedAt : List ℕ → ℕ → HeldOrbit
+codedAt s slot = coded (heldOrbitAt s slot) (heldCodeAt s slot)
+
 -- the row of a slot by what a ledger's bytes hold
 abbrev pub rowHeld : List ℕ → ℕ → ℕ → Option Row
-rowHeld s issue slot = rowOf (maskAt s) (heldOrbitAt s slot) (heldClockAt s slot) issue slot
+rowHeld s issue slot = rowOf (maskAt s) (codedAt s slot) (heldClockAt s slot) issue slot
 
 -- 01, Refusal numbers: the number and the value of each answer; a row is 0 and the row, a refusal its number alone
 abbrev pub rowSays : RowAnswer → ℕ × Option Row

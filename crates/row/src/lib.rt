@@ -1,11 +1,15 @@
 // One satellite's row: whether it qualifies, and what its row says.
 ghost use mathlib.Core.Path.{_≡_};
-ghost use Rattle.row.specs.Row.{isAssigned, isKnown, usable, agrees, rowFrom, rowHeld, rowSays, answerOf};
+ghost use Rattle.bits.specs.Pick.{pick};
+ghost use Rattle.ura.specs.Ura.{uraOf};
+ghost use Rattle.row.specs.Row.{isAssigned, isKnown, usable, agrees, coded, codedAt, rowFrom, rowHeld, rowSays, answerOf};
 use held_clocks::HeldClock;
+use held_codes::HeldCode;
 use held_orbits::HeldOrbit;
 use slots::Slot;
 use slots::System;
 use ura::Ura;
+use ura::ura_of;
 
 // A row of the list. Orbit values and clock in tenths of a millimetre.
 pub struct Row {
@@ -61,6 +65,45 @@ fn do_agree(ssr: u8, o: HeldOrbit, k: HeldClock, issue: u16) -> bool
     o.has & k.has & (o.ssr == ssr) & (k.ssr == ssr) & (o.corr == k.corr) & (o.iodn == issue)
 }
 
+// The URA of a code that is held, else an orbit's own.
+fn ura_by(k: HeldCode, own: Ura) -> Ura
+    ensures { λ r. ⌜ r ≡ pick (k .has) (uraOf (k .code)) own ⌝ }
+{
+    if k.has {
+        return ura_of(k.code);
+    }
+    own
+}
+
+// An orbit with the URA of the code that replaces its own, where there is one.
+fn coded_by(o: HeldOrbit, k: HeldCode) -> HeldOrbit
+    ensures { λ r. ⌜ r ≡ coded o k ⌝ }
+{
+    let own = o.ura;
+    let ura = ura_by(k, own);
+    HeldOrbit {
+        has: o.has,
+        epoch: o.epoch,
+        ssr: o.ssr,
+        iodn: o.iodn,
+        corr: o.corr,
+        radial: o.radial,
+        along: o.along,
+        cross: o.cross,
+        ura,
+    }
+}
+
+// The orbit that the ledger holds for a slot, with the code that it holds for it.
+pub fn coded_orbit(ledger: &[u8], slot: Slot) -> HeldOrbit
+    ensures { λ r. ⌜ r ≡ codedAt (now (ledger .entry)) (slot .0) ⌝ }
+{
+    coded_by(
+        held_orbits::get_orbit(ledger, slot),
+        held_codes::get_code(ledger, slot),
+    )
+}
+
 // The row of a slot that qualifies.
 fn row_from(slot: Slot, o: HeldOrbit, k: HeldClock) -> Row
     ensures { λ r. ⌜ r ≡ rowFrom (slot .0) o k ⌝ }
@@ -99,7 +142,7 @@ pub fn slot_row(ledger: &[u8], slot: Slot, issue: u16) -> RowAnswer
     if !mask_bits::has_bit(ledger, slot) {
         return RowAnswer::Refused(18);
     }
-    let o = held_orbits::get_orbit(ledger, slot);
+    let o = coded_orbit(ledger, slot);
     let k = held_clocks::get_clock(ledger, slot);
     if !do_agree(held_mask::mask_ssr(ledger), o, k, issue) {
         return RowAnswer::Refused(18);

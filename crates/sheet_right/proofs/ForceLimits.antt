@@ -3,11 +3,16 @@ use Prim.Native.Nat.{ℕ, _≤_}
 use mathlib.Core.Bool.{true, false}
 use mathlib.Core.List.{List, [], _∷_}
 use mathlib.Core.Option.{some}
+use mathlib.Core.Logic.{dite}
+use native.Mathlib.Decide.{decLt}
 use native.Mathlib.Omega.{arith}
+use borrow.Author.Tests.{ne-eqb, le-ltb}
 use lib.Dec.{eqb, lit<}
 use lib.ListN.{take}
 use Rattle.layout.proofs.LayoutLaws.{pick-all}
-use Rattle.ura.specs.Ura.{codeOf}
+use Rattle.ura.specs.Ura.{uraOf, codeOf}
+use Rattle.ura.specs.declared.Ura.{Ura}
+use Rattle.ura.proofs.UraLaws.{code-back}
 use Rattle.records.specs.declared.orbit.Orbit.{Orbit}
 use Rattle.records.specs.declared.clock.Clock.{Clock}
 use Rattle.records.proofs.SignedLaws.{InBits}
@@ -17,6 +22,8 @@ use Rattle.held_clocks.specs.Clocks.{clocksKept, clockReplaces}
 use Rattle.held_clocks.specs.declared.HeldClock.{HeldClock}
 use Rattle.held_orbits.specs.Orbits.{noOrbit, orbitReplaces}
 use Rattle.held_orbits.specs.declared.HeldOrbit.{HeldOrbit}
+use Rattle.held_codes.specs.declared.HeldCode.{HeldCode}
+use Rattle.row.specs.Row.{coded}
 use Rattle.held_mask.specs.Mask.{HeldMask, heldMask, sameMask}
 use Rattle.places.specs.Keeps.{heldOrbit, heldClock, maskOf, hasOrbits, orbitsOf, needsMask, firstPlace, clocksOf, bySlot, byPlace}
 use Rattle.in_force.specs.Back.{maskBy, maskInForce, accepted, orbitBy, clockBy, orbitInForce, clockBack}
@@ -46,6 +53,25 @@ no-orbit = record { iodn = omega arith; corr = omega arith; radial = lit< tt; al
 
 held-orbit : (epoch ssr : ℕ) (o : Orbit) → OrbitLimits o → HeldLimits (heldOrbit epoch ssr o)
 held-orbit epoch ssr o l = record { iodn = l .iodn; corr = l .corr; radial = l .radial; along = l .along; cross = l .cross; ura = l .ura }
+
+-- the index of any code has a code
+code-near : (code : ℕ) → codeOf (uraOf code) ≤ 63
+code-near code =
+    dite (decLt code 64)
+    (λ l. rw (code-back code l) (omega arith))
+    (λ l. rw (ne-eqb code 0 (λ z. omega arith), le-ltb code 63 (omega arith)) (omega arith))
+
+-- 02, CR 2: so a replaced code keeps the limits of an orbit
+pub coded-limits : (o : HeldOrbit) (k : HeldCode) → HeldLimits o → HeldLimits (coded o k)
+unfolding coded
+coded-limits o k l = record {
+  iodn = l .iodn;
+  corr = l .corr;
+  radial = l .radial;
+  along = l .along;
+  cross = l .cross;
+  ura = pick-all (λ (u : Ura). codeOf u ≤ 63) (k .has) (uraOf (k .code)) (o .ura) (code-near (k .code)) (l .ura);
+}
 
 -- ---- what one frame names
 module _ (f : List ℕ) where

@@ -16,10 +16,9 @@ use Rattle.ura.specs.Ura.{kindOf, quartersIn, heldUra}
 use Rattle.ura.specs.declared.Ura.{Ura}
 use Rattle.ura.proofs.UraLaws.{kind-back}
 use Rattle.held_clocks.specs.Clocks.{heldClockAt}
-use Rattle.held_orbits.specs.Orbits.{heldOrbitAt}
 use Rattle.held_mask.specs.Mask.{maskAt}
 use Rattle.broadcast.specs.Issues.{issueOf}
-use Rattle.row.specs.Row.{rowFrom, rowOf, qualifies}
+use Rattle.row.specs.Row.{codedAt, rowFrom, rowOf, qualifies}
 use Rattle.row.specs.declared.Row.{Row}
 use Rattle.list.specs.Rows.{rowIn, listIn}
 use Rattle.sheet_checking.specs.Same.{sameNumber, sameUra, sameNumbers}
@@ -92,10 +91,10 @@ module _ (s is : List ℕ) where
   picked false x r e = absurd (let z : _≡_ {A = ℕ} 0 1 = cc in omega arith)
 
   -- the row of a slot
-  row-in : (slot : ℕ) (r : Row) → rowIn s is slot ≡ some r → r ≡ rowFrom slot (heldOrbitAt s slot) (heldClockAt s slot)
+  row-in : (slot : ℕ) (r : Row) → rowIn s is slot ≡ some r → r ≡ rowFrom slot (codedAt s slot) (heldClockAt s slot)
   unfolding rowOf
   row-in slot r e =
-      picked (qualifies (maskAt s) (heldOrbitAt s slot) (heldClockAt s slot) (issueOf is slot) slot) (rowFrom slot (heldOrbitAt s slot) (heldClockAt s slot)) r e
+      picked (qualifies (maskAt s) (codedAt s slot) (heldClockAt s slot) (issueOf is slot) slot) (rowFrom slot (codedAt s slot) (heldClockAt s slot)) r e
 
   -- says its slot
   pub own-slot : (slot : ℕ) (r : Row) → rowIn s is slot ≡ some r → r .slot .0 ≡ slot

@@ -17,15 +17,15 @@ use Rattle.mask_bits.specs.Bits.{bitAtSlot}
 use Rattle.held_mask.specs.Mask.{HeldMask}
 use Rattle.held_clocks.specs.declared.HeldClock.{HeldClock}
 use Rattle.held_orbits.specs.declared.HeldOrbit.{HeldOrbit}
-use Rattle.in_force.specs.Back.{maskInForce, orbitInForce, clockInForce}
+use Rattle.in_force.specs.Back.{maskInForce, orbitInForce, clockInForce, codeInForce}
 use Rattle.broadcast.specs.Issues.{issueOf}
 use Rattle.row.specs.Row.{isKnown, lowest, usable, agrees, isAssigned, qualifies, rowFrom}
 use Rattle.row.specs.declared.Row.{Row}
-use Rattle.list_right.specs.InForce.{qualifiesAfter, rowAfter, listInForce}
+use Rattle.list_right.specs.InForce.{codedAfter, qualifiesAfter, rowAfter, listInForce}
 use Rattle.list_right.proofs.ListRight.{list-is-right}
 use Rattle.sheet_right.specs.Allowed.{RowAllowed}
 use Rattle.sheet_right.proofs.TestLaws.{five-hold}
-use Rattle.sheet_right.proofs.ForceLimits.{HeldLimits, C0Limit, orbit-force, clock-force}
+use Rattle.sheet_right.proofs.ForceLimits.{HeldLimits, C0Limit, coded-limits, orbit-force, clock-force}
 use Rattle.sheet_form.specs.Reading.{absolute}
 
 -- a number of 15 or 13 bits that is not the lowest gives a value
@@ -82,7 +82,9 @@ module _ (m : HeldMask) (o : HeldOrbit) (k : HeldClock) (issue slot : ℕ) (e : 
 module _ (prn : ℕ) (h : List (List ℕ)) (is : List ℕ) where
   slot-fits : (slot : ℕ) → qualifiesAfter prn h is slot ≡ true → RowAllowed (rowAfter prn h slot)
   unfolding qualifiesAfter rowAfter
-  slot-fits slot e = row-fits (maskInForce prn h) (orbitInForce prn h slot) (clockInForce prn h slot) (issueOf is slot) slot e (orbit-force prn h slot) (clock-force prn [] h slot)
+  slot-fits slot e =
+      row-fits (maskInForce prn h) (codedAfter prn h slot) (clockInForce prn h slot) (issueOf is slot) slot e
+      (coded-limits (orbitInForce prn h slot) (codeInForce prn h slot) (orbit-force prn h slot)) (clock-force prn [] h slot)
 
   pub list-fits : (r : Row) → List·Memᴰ r (listInForce prn h is) → RowAllowed r
   list-fits r m = (let s = list-is-right prn h is .only r m in rw (s .row) (slot-fits (s .slot) (s .qualified)))

@@ -1,5 +1,7 @@
 // The line of a message's contents.
 ghost use Rattle.io.specs.Counts.{Counts};
+use crate::late::put_bias_part;
+use crate::late::put_code_part;
 use console::put::cursor_in;
 use console::put::put_byte;
 use console::put::put_bytes;
@@ -15,7 +17,7 @@ use records::clock::Clock;
 use records::orbit::Orbit;
 
 // A number after a separator.
-fn put_after(room: &mut [u8], at: usize, separator: u8, x: u64) -> usize
+pub(crate) fn put_after(room: &mut [u8], at: usize, separator: u8, x: u64) -> usize
     ensures { λ r. ⌜ Counts r (now (room .exit)) ⌝ }
 {
     let a = put_byte(room, at, separator);
@@ -23,7 +25,7 @@ fn put_after(room: &mut [u8], at: usize, separator: u8, x: u64) -> usize
 }
 
 // A raw value after a stroke.
-fn put_raw(room: &mut [u8], at: usize, x: i16) -> usize
+pub(crate) fn put_raw(room: &mut [u8], at: usize, x: i16) -> usize
     ensures { λ r. ⌜ Counts r (now (room .exit)) ⌝ }
 {
     let value = x as i32;
@@ -232,11 +234,15 @@ fn put_parts(room: &mut [u8], at: usize, c: Contents) -> usize
     let m = c.mask;
     let k = c.clock;
     let o = c.orbit;
+    let b = c.bias;
+    let u = c.code;
     let kind = c.kind;
     match kind {
         1 => put_mask(room, at, m),
         2 => put_orbit_part(room, at, o),
+        3 => put_bias_part(room, at, b),
         4 => put_clock_part(room, at, k),
+        5 => put_code_part(room, at, u),
         6 => put_two_parts(room, at, false, c),
         7 => put_two_parts(room, at, true, c),
         _ => cursor_in(room, at),

@@ -1,4 +1,5 @@
 // show [-f] FILE: one line for each message of 61 bytes, or for each frame of 125.
+mod late;
 mod lines;
 
 use console::args::Args;

@@ -2,13 +2,14 @@
 ghost use mathlib.Core.Path.{_≡_};
 ghost use Rattle.table_form.specs.Table.{isRight, isTable, roomWith, freeRoom, roomOf, ledgerFor};
 use frame::is_prn;
+use held_mask::LEDGER_SIZE;
 use lent::byte;
 
 // The rooms of a table.
 pub const ROOMS: usize = 4;
 
 // The bytes of a room: those of a ledger.
-pub const ROOM_SIZE: usize = 9216;
+pub const ROOM_SIZE: usize = LEDGER_SIZE;
 
 // The bytes of a table. Zero bytes are the empty table.
 pub const TABLE_SIZE: usize = ROOM_SIZE * ROOMS;

@@ -14,9 +14,9 @@ use Rattle.bits.specs.Bits.{bitAt, fieldAt}
 use Rattle.verdict.specs.Verdict.{numberIn}
 use Rattle.verdict.proofs.NumberLaws.{number-back}
 use Rattle.parity.specs.Parity.{parityOk}
-use Rattle.frame.specs.Frame.{prnOf, contentsOf, foreignTo, shellRefusal, refusalWith}
+use Rattle.frame.specs.Frame.{prnOf, foreignTo, shellRefusal, refusalWith}
 use Rattle.frame.proofs.FrameLaws.{leading}
-use Rattle.judge.specs.Judge.{refusalOf}
+use Rattle.judge.specs.Judge.{refusalAt}
 use Rattle.held_mask.specs.Mask.{maskAt}
 use Rattle.in_force.specs.Bytes.{prnAt, takeRefusal}
 use Rattle.in_force.proofs.RefusalLaws.{frame-refusal, under-number}
@@ -57,7 +57,7 @@ module _ (f : List ℕ) (long : length f ≡ 125) where
   by-shell : (t : List ℕ) → shellRefusal (foreignTo (prnAt t) f) f ≢ 0 → takeRefusal t f ≡ shellRefusal (foreignTo (prnAt t) f) f
   unfolding refusalWith
   by-shell t n =
-      let same = leading (shellRefusal (foreignTo (prnAt t) f) f) (refusalOf (contentsOf f)) n in
+      let same = leading (shellRefusal (foreignTo (prnAt t) f) f) (refusalAt f 28) n in
       frame-refusal t f (λ z. n (sym same ∙ z)) ∙ same
 
   ledger-frame : (t : List ℕ) → (3 ≤ takeRefusal t f → takeRefusal t f ≤ 6 → ⊥) → isFrame f ≡ true

@@ -14,8 +14,8 @@ use Rattle.bits.specs.Some.{first}
 use Rattle.bits.specs.Bits.{bitAt, fieldAt}
 use Rattle.check24.specs.Check.{checkOk}
 use Rattle.parity.specs.Parity.{parityOk}
-use Rattle.judge.specs.Judge.{refusalOf}
-use Rattle.frame.specs.Frame.{prnOf, contentsOf, foreignTo, shellRefusal, refusalWith}
+use Rattle.judge.specs.Judge.{refusalAt}
+use Rattle.frame.specs.Frame.{prnOf, foreignTo, shellRefusal, refusalWith}
 use Rattle.frame.proofs.FrameLaws.{leading}
 use Rattle.held_mask.specs.Size.{size}
 use Rattle.in_force.specs.Bytes.{prnAt, fresh, takeBytes, runBytes, Holds}
@@ -44,7 +44,7 @@ unfolding isOwn refusalWith
 not-own s f h =
     let shut : eqb (length f) 125 && eqb (fieldAt f 0 16) 0xEB90 ≡ false = sym (and-yes _) ∙ ap (λ (b : Bool). eqb (length f) 125 && eqb (fieldAt f 0 16) 0xEB90 && b) (sym (eq-eqb (prnOf f) (prnOf f) refl)) ∙ h in
     let n = shell-refused (foreignTo (prnAt s) f) f shut in
-    let e : refusalWith (foreignTo (prnAt s) f) f ≡ shellRefusal (foreignTo (prnAt s) f) f = leading (shellRefusal (foreignTo (prnAt s) f) f) (refusalOf (contentsOf f)) n in
+    let e : refusalWith (foreignTo (prnAt s) f) f ≡ shellRefusal (foreignTo (prnAt s) f) f = leading (shellRefusal (foreignTo (prnAt s) f) f) (refusalAt f 28) n in
     let m : refusalWith (foreignTo (prnAt s) f) f ≢ 0 = λ z. n (sym e ∙ z) in
     refused-same s f (λ z. m (sym (frame-refusal s f m) ∙ z))
 

@@ -6,17 +6,17 @@ use Prim.Native.Nat.{ℕ, _+_, _*_, _≤_, _<_}
 use lib.Dec.{eqb}
 use native.Mathlib.Decide.{ℕ-discrete, decLt}
 use native.Mathlib.Omega.{arith}
-use borrow.Author.Tests.{eq-eqb, ne-eqb, ltb-false, not-false}
+use borrow.Author.Tests.{eq-eqb, ne-eqb, le-leb, lt-leb, ltb-false, not-false}
 use Rattle.bits.specs.Pick.{pick}
 use Rattle.layout.specs.Layout.{layoutOf, orbitsFrom, endOf}
 use Rattle.judge.specs.Judge.{isKind, tooLong, refusalOf}
 use Rattle.layout.specs.declared.Layout.{Layout}
 use Rattle.contents.specs.declared.parts.Contents.{Contents}
-use Rattle.layout.proofs.LayoutLaws.{pick-all, from-some, layout-narrow}
+use Rattle.layout.proofs.LayoutLaws.{pick-all, from-some, layout-narrow, layout-short}
 use Rattle.canonical.specs.Canon.{layoutFor}
 use Rattle.canonical.proofs.KindLaws.{headed}
 use Rattle.writing.specs.Fits.{fitsAll}
-use Rattle.writing.specs.Write.{contentRefusal}
+use Rattle.writing.specs.Write.{endFor, contentRefusal}
 
 -- where the first number is not given, its condition does not hold
 pub first-not : (n m : ℕ) (b : Bool) → n ≢ 0 → pick b n m ≡ 0 → (b ≡ false) × (m ≡ 0)
@@ -29,24 +29,24 @@ kind-lt k e =
     dite (decLt k 64)
     (λ l. l)
     (λ n.
-    let g : false ≡ true =
-    rw (
-      ne-eqb k 1 (λ z. n (omega arith)),
-      ne-eqb k 2 (λ z. n (omega arith)),
-      ne-eqb k 4 (λ z. n (omega arith)),
-      ne-eqb k 6 (λ z. n (omega arith)),
-      ne-eqb k 7 (λ z. n (omega arith)),
-      ne-eqb k 63 (λ z. n (omega arith)),
-    ) at e in
+    let g : false ≡ true = rw (le-leb 1 k (omega arith), lt-leb k 7 (omega arith), ne-eqb k 63 (λ z. n (omega arith))) at e in
     absurd (true≢false (sym g)))
 
+-- 02, CR 2: a type 3 has neither clocks nor orbits
+end-layout : (c : Contents) → endFor c ≤ 462 → endOf (layoutFor c) ≤ 462
+end-layout c h =
+    dite (ℕ-discrete (c .kind) 3)
+    (λ e. layout-short (c .kind) (c .clock .count) (c .orbit .count) (λ x. omega arith) (λ x. omega arith))
+    (λ n. rw (ne-eqb (c .kind) 3 n) at h)
+
 -- 01, 8 and 9: the type is within its width, the parts within the message
-pub judged : (c : Contents) → refusalOf c ≡ 0 → (c .kind < 64) × (endOf (layoutFor c) ≤ 462)
+pub judged : (c : Contents) → refusalOf (endFor c) c ≡ 0 → (c .kind < 64) × (endOf (layoutFor c) ≤ 462) × (endFor c ≤ 462)
 unfolding refusalOf
 judged c e =
     let a = first-not 8 _ (not (isKind (c .kind))) (λ z. omega arith) e in
-    let b = first-not 9 _ (tooLong (c .kind) (c .clock .count) (c .orbit .count)) (λ z. omega arith) (a .1) in
-    (kind-lt (c .kind) (not-false (isKind (c .kind)) (a .0)), ltb-false 462 (endOf (layoutFor c)) (b .0))
+    let b = first-not 9 _ (tooLong (endFor c)) (λ z. omega arith) (a .1) in
+    let h = ltb-false 462 (endFor c) (b .0) in
+    (kind-lt (c .kind) (not-false (isKind (c .kind)) (a .0)), end-layout c h, h)
 
 -- ---- no more records than the arrays have
 -- 01: clocks by place come after IODP and nine bits at least; others have a slot each
@@ -95,10 +95,10 @@ few c e =
     (few-orbits (layoutFor c) (six c) e, few-clocks (layoutFor c) (broad (c .kind) (c .clock .count) (c .orbit .count)) (six c) e)
 
 -- 01: 8 to 12 do not apply, nor 16
-pub content-taken : (c : Contents) → contentRefusal c ≡ 0 → (refusalOf c ≡ 0) × (fitsAll c ≡ true)
+pub content-taken : (c : Contents) → contentRefusal c ≡ 0 → (refusalOf (endFor c) c ≡ 0) × (fitsAll c ≡ true)
 unfolding contentRefusal
 content-taken c e =
-    dite (ℕ-discrete (refusalOf c) 0)
+    dite (ℕ-discrete (refusalOf (endFor c) c) 0)
     (λ z.
     let g : pick (not (fitsAll c)) 16 0 ≡ 0 = rw (eq-eqb _ _ z) at e in
     (z, not-false (fitsAll c) (first-not 16 0 (not (fitsAll c)) (λ q. omega arith) g .0)))

@@ -10,7 +10,7 @@ use Rattle.bits.specs.Some.{first}
 use Rattle.check24.specs.Check.{checkOf}
 use Rattle.records.specs.Orbit.{orbitWidths}
 use Rattle.records.specs.Clock.{clockWidths}
-use Rattle.layout.specs.Layout.{partWidths, orbitsFrom}
+use Rattle.layout.specs.Layout.{partWidths, orbitsFrom, endOf}
 use Rattle.judge.specs.Judge.{refusalOf}
 use Rattle.layout.specs.declared.Layout.{Layout}
 use Rattle.contents.specs.declared.parts.MaskPart.{MaskPart}
@@ -18,7 +18,13 @@ use Rattle.contents.specs.declared.parts.ClockPart.{ClockPart}
 use Rattle.contents.specs.declared.parts.OrbitPart.{OrbitPart}
 use Rattle.contents.specs.declared.parts.Contents.{Contents}
 use Rattle.canonical.specs.Canon.{layoutFor, canon}
-use Rattle.writing.specs.Fits.{headVals, clockRow, orbitRow, fitsAll}
+use Rattle.biases.specs.declared.BiasPart.{BiasPart}
+use Rattle.ura_codes.specs.declared.CodePart.{CodePart}
+use Rattle.canonical_biases.specs.Canon.{biasBits}
+use Rattle.bias_writing.specs.Put.{biasesPut}
+use Rattle.code_writing.specs.Codes.{codesPut}
+use Rattle.fitting.specs.Fits.{headVals}
+use Rattle.writing.specs.Fits.{clockRow, orbitRow, fitsAll}
 
 -- 01: type [6]; in types 6 and 7 NumC [5], NumO [3]
 abbrev pub headWidths : Layout → List ℕ
@@ -60,9 +66,18 @@ orbitsPut s l o =
     pick (eqb (l .orbits) 0) s
     (putRows (putsAt s (orbitsFrom l) (partWidths 0 0) (headVals (o .epoch) (o .ssr) 0 0)) (orbitsFrom l + 23) orbitWidths (orbitRow (o .orbits)) (l .orbits))
 
+-- 02, CR 2, type 3: the biases put after the type
+unfoldable pub biasPut : List ℕ → ℕ → BiasPart → List ℕ
+biasPut s kind b = pick (eqb kind 3) (biasesPut s 6 b) s
+
+-- 02, CR 2, type 5: the URA codes put after the type
+unfoldable pub codePut : List ℕ → ℕ → CodePart → List ℕ
+codePut s kind u = pick (eqb kind 5) (codesPut s 6 u) s
+
 -- 01: the fields of contents, of the layout l, put in order
 unfoldable pub partsPut : List ℕ → Contents → Layout → List ℕ
-partsPut s c l = orbitsPut (clocksPut (maskPut (headPut s (c .kind) l) l (c .mask)) l (c .clock)) l (c .orbit)
+partsPut s c l =
+    codePut (biasPut (orbitsPut (clocksPut (maskPut (headPut s (c .kind) l) l (c .mask)) l (c .clock)) l (c .orbit)) (c .kind) (c .bias)) (c .kind) (c .code)
 
 -- 01, Parity and check bits: the check of the first 462 bits put after them
 unfoldable pub checkPut : List ℕ → List ℕ
@@ -72,9 +87,13 @@ checkPut s = putAt s 462 24 (checkOf s 0 462)
 unfoldable pub messageOf : Contents → List ℕ
 messageOf c = checkPut (partsPut (replicate 61 0) c (layoutFor c))
 
+-- 01, 9: where the parts of canonical contents would end, as written; 02, CR 2: a type 3 by its biases, after the type
+abbrev pub endFor : Contents → ℕ
+endFor c = pick (eqb (c .kind) 3) (6 + biasBits (c .bias)) (endOf (layoutFor c))
+
 -- 01, Refusal numbers: 8 to 12 as in reading, then 16, of canonical contents; 0 if none applies
 unfoldable pub contentRefusal : Contents → ℕ
-contentRefusal c = first ((refusalOf c, not (eqb (refusalOf c) 0)) ∷ (16, not (fitsAll c)) ∷ [])
+contentRefusal c = first ((refusalOf (endFor c) c, not (eqb (refusalOf (endFor c) c) 0)) ∷ (16, not (fitsAll c)) ∷ [])
 
 -- 01, Refusal numbers: 1 for a room that is not 61 bytes, then those of the contents
 unfoldable pub writeRefusal : List ℕ → Contents → ℕ

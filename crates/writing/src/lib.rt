@@ -1,50 +1,36 @@
 // Writing messages into a lent room of 61 bytes, by the rules of reading.
 ghost use mathlib.Core.Path.{_≡_};
-ghost use Prim.Native.Nat.{_+_, _^_, _<_, _≤_};
-ghost use lib.Dec.{ltb};
+ghost use Prim.Native.Nat.{_+_, _<_, _≤_};
 ghost use lib.ListN.{length};
-ghost use lib.Signed.{mag};
-ghost use Rattle.bits.specs.Bits.{bitAt, putsAt, putRows};
+ghost use Rattle.bits.specs.Bits.{bitAt, putRows};
 ghost use Rattle.records.specs.Orbit.{orbitWidths};
 ghost use Rattle.records.specs.Clock.{clockWidths};
-ghost use Rattle.layout.specs.Layout.{partWidths};
 ghost use Rattle.verdict.specs.Verdict.{says, refusedBy};
-ghost use Rattle.writing.specs.Fits.{eight, rawOr, clockVals, orbitVals, headVals, clockRow, orbitRow, fits, allFit, fitsAll};
-ghost use Rattle.writing.specs.Write.{headPut, maskWidths, maskRow, maskPut, clocksPut, orbitsPut, partsPut, checkPut, messageOf, contentRefusal, writeRefusal, written};
+ghost use Rattle.fitting.specs.Fits.{eight, allFit};
+ghost use Rattle.writing.specs.Fits.{clockVals, orbitVals, clockRow, orbitRow, partsFit, lastFit, fitsAll};
+ghost use Rattle.writing.specs.Write.{headPut, maskWidths, maskRow, maskPut, clocksPut, orbitsPut, biasPut, codePut, partsPut, checkPut, messageOf, endFor, contentRefusal, writeRefusal, written};
+use bias_writing::biases_fit;
+use bias_writing::put_biases;
+use biases::BiasPart;
+use canonical_biases::written_end;
+use code_writing::codes_fit;
+use code_writing::put_codes;
 use contents::parts::ClockPart;
 use contents::parts::Contents;
 use contents::parts::MaskPart;
 use contents::parts::OrbitPart;
+use fitting::head_fits;
+use fitting::put_part_head;
+use fitting::raw_or;
+use fitting::row_fits;
 use layout::Layout;
+use layout::end_of;
 use layout::layout_of;
 use layout::orbits_from;
 use records::clock::Clock;
 use records::orbit::Orbit;
+use ura_codes::CodePart;
 use verdict::Verdict;
-
-// How far a number lies from 0, or from -1 downwards.
-fn size(z: i16) -> u64
-    ensures { λ r. ⌜ r ≡ mag z ⌝ }
-{
-    if z < 0 {
-        let m = -1 - z;
-        m as u64
-    } else {
-        z as u64
-    }
-}
-
-// The bits of a number whose highest weighs half; one bit too wide where it is out of range.
-fn raw_or(z: i16, half: u64) -> u64
-    requires { ⌜ half < 16385 ⌝ }
-    ensures { λ r. ⌜ r ≡ rawOr half z ⌝ }
-{
-    let m = size(z);
-    if m >= half {
-        return 2 * half;
-    }
-    if z < 0 { 2 * half - 1 - m } else { m }
-}
 
 // The widths of a clock record's fields.
 fn clock_widths(slotted: bool) -> [u8; 8]
@@ -93,53 +79,6 @@ fn orbit_vals(o: Orbit) -> [u64; 8]
     ]
 }
 
-// The widths of a part's head: epoch, reserved, IOD SSR, IODP, sub-type or Slot_S.
-fn head_widths(iodp: u8, start: u8) -> [u8; 8]
-    ensures { λ r. ⌜ r ≡ eight (partWidths iodp start) ⌝ }
-{
-    [17, 4, 2, iodp, start, 0, 0, 0]
-}
-
-// The values of a part's head.
-fn head_vals(epoch: u32, ssr: u8, iodp: u8, start: u16) -> [u64; 8]
-    ensures { λ r. ⌜ r ≡ eight (headVals epoch ssr iodp start) ⌝ }
-{
-    [
-        epoch as u64,
-        0,
-        ssr as u64,
-        iodp as u64,
-        start as u64,
-        0,
-        0,
-        0,
-    ]
-}
-
-// Whether a value is within its width.
-fn one_fits(w: u8, v: u64) -> bool
-    ensures { λ r. ⌜ r ≡ ltb v (2 ^ w) ⌝ }
-{
-    if w > 63 {
-        return true;
-    }
-    v < (1u64 << w)
-}
-
-// Whether each value of a row is within its width.
-fn row_fits(ws: [u8; 8], vs: [u64; 8]) -> bool
-    ensures { λ r. ⌜ r ≡ fits ws vs ⌝ }
-{
-    let mut i: usize = 0;
-    while i < 8 {
-        if !one_fits(ws[i], vs[i]) {
-            return false;
-        }
-        i += 1;
-    }
-    true
-}
-
 // Whether the fields of each clock record are within their widths.
 fn clocks_fit(slotted: bool, ks: [Clock; 23]) -> bool
     ensures { λ r. ⌜ r ≡ allFit (clockWidths slotted) (clockRow ks) 23 ⌝ }
@@ -172,16 +111,9 @@ fn orbits_fit(os: [Orbit; 6]) -> bool
     true
 }
 
-// Whether the fields of a part's head are within their widths.
-fn head_fits(p: u8, w: u8, epoch: u32, ssr: u8, iodp: u8, start: u16) -> bool
-    ensures { λ r. ⌜ r ≡ fits (partWidths p w) (headVals epoch ssr iodp start) ⌝ }
-{
-    row_fits(head_widths(p, w), head_vals(epoch, ssr, iodp, start))
-}
-
-// Whether every field of contents is within its width.
-fn all_fields_fit(c: Contents) -> bool
-    ensures { λ r. ⌜ r ≡ fitsAll c ⌝ }
+// Whether every field of the mask, the clocks and the orbits is within its width.
+fn parts_fit(c: Contents) -> bool
+    ensures { λ r. ⌜ r ≡ partsFit c ⌝ }
 {
     let m = c.mask;
     let k = c.clock;
@@ -199,11 +131,48 @@ fn all_fields_fit(c: Contents) -> bool
     a & b & d & e & f & g
 }
 
+// Whether the biases of a type 3, or the URA codes of a type 5, are within their widths; of another type they are not looked at.
+fn last_parts_fit(kind: u8, b: BiasPart, u: CodePart) -> bool
+    ensures { λ r. ⌜ r ≡ lastFit kind b u ⌝ }
+{
+    if kind == 3 {
+        return biases_fit(b);
+    }
+    if kind == 5 {
+        return codes_fit(u);
+    }
+    true
+}
+
+// Whether every field of contents is within its width.
+fn all_fields_fit(c: Contents) -> bool
+    ensures { λ r. ⌜ r ≡ fitsAll c ⌝ }
+{
+    let b = c.bias;
+    let u = c.code;
+    let most = parts_fit(c);
+    let last = last_parts_fit(c.kind, b, u);
+    most & last
+}
+
+// Where the parts of canonical contents would end, as written.
+fn end_for(c: Contents) -> u32
+    ensures { λ r. ⌜ r ≡ endFor c ⌝ }
+{
+    let b = c.bias;
+    if c.kind == 3 {
+        return written_end(6, b);
+    }
+    let k = c.clock;
+    let o = c.orbit;
+    end_of(layout_of(c.kind, k.count, o.count))
+}
+
 // The lowest number of 8 to 12 and 16 that applies to canonical contents; 0 if none does.
 fn content_refusal(c: Contents) -> u8
     ensures { λ r. ⌜ r ≡ contentRefusal c ⌝ }
 {
-    let n = judge::refusal_of(c);
+    let n = judge::refusal_of(end_for(c), c);
     if n != 0 {
         return n;
     }
@@ -238,18 +207,6 @@ fn put_mask_bits(room: &mut [u8], at: u32, bytes: [u8; 32])
         put_bits::put(room, (at + i) as usize, 1, b);
         i += 1;
     }
-}
-
-// The head of a part is put from bit at on.
-fn put_part_head(room: &mut [u8], at: u32, p: u8, w: u8, epoch: u32, ssr: u8, iodp: u8, start: u16)
-    ensures { λ r. ⌜ now (room .exit) ≡ putsAt (now (room .entry)) at (partWidths p w) (headVals epoch ssr iodp start) ⌝ }
-{
-    put_bits::puts(
-        room,
-        at,
-        head_widths(p, w),
-        head_vals(epoch, ssr, iodp, start),
-    );
 }
 
 // The mask part is put where the type has one.
@@ -322,6 +279,24 @@ fn put_orbits(room: &mut [u8], l: Layout, o: OrbitPart)
     }
 }
 
+// The biases are put where the type is 3.
+fn put_bias_part(room: &mut [u8], kind: u8, b: BiasPart)
+    ensures { λ r. ⌜ now (room .exit) ≡ biasPut (now (room .entry)) kind b ⌝ }
+{
+    if kind == 3 {
+        put_biases(room, 6, b);
+    }
+}
+
+// The URA codes are put where the type is 5.
+fn put_code_part(room: &mut [u8], kind: u8, u: CodePart)
+    ensures { λ r. ⌜ now (room .exit) ≡ codePut (now (room .entry)) kind u ⌝ }
+{
+    if kind == 5 {
+        put_codes(room, 6, u);
+    }
+}
+
 // The type, the counts and the parts are put.
 fn put_parts(room: &mut [u8], c: Contents, l: Layout)
     requires { ⌜ (l .orbits ≤ 6) × (l .clocks ≤ 23) × (l .iodp ≤ 4) × (l .start ≤ 9) ⌝ }
@@ -330,10 +305,14 @@ fn put_parts(room: &mut [u8], c: Contents, l: Layout)
     let m = c.mask;
     let k = c.clock;
     let o = c.orbit;
+    let b = c.bias;
+    let u = c.code;
     put_head(room, c.kind, l);
     put_mask(room, l, m);
     put_clocks(room, l, k);
     put_orbits(room, l, o);
+    put_bias_part(room, c.kind, b);
+    put_code_part(room, c.kind, u);
 }
 
 // The check bits of the first 462 bits are put after them.

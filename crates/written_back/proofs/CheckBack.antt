@@ -16,7 +16,7 @@ use Rattle.bits.proofs.RunLaws.{bits-ext}
 use Rattle.check24.specs.Check.{feedOf, checkBits, checkOf, checkOk}
 use Rattle.check24.proofs.CheckLaws.{feed-lt}
 use Rattle.writing.specs.Write.{checkPut}
-use Rattle.written_back.proofs.BesideLaws.{Beside, put-beside}
+use Rattle.fitting.proofs.BesideLaws.{Beside, put-beside}
 
 pub check-beside : (s : List ℕ) → Beside 462 486 s (checkPut s)
 unfolding checkPut

@@ -1,6 +1,4 @@
 pub mod WithinLaws
-pub mod RawBack
-pub mod BesideLaws
 pub mod RecordsBack
 pub mod PartsBack
 pub mod StepsBeside
@@ -12,4 +10,6 @@ pub mod LimitLaws
 pub mod ReadSaid
 pub mod MessageRead
 pub mod UnderLaws
+pub mod UnderLast
+pub mod UnderParts
 pub mod RoundTrip

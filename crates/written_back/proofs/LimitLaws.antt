@@ -1,9 +1,9 @@
 -- Contents are taken exactly if they are within their limits.
-use mathlib.Core.Path.{_≡_, sym, ap, _∙_}
-use mathlib.Core.Logic.{dite}
-use mathlib.Core.Bool.{true, false, not, _||_}
+use mathlib.Core.Path.{_≡_, refl, sym, ap, _∙_}
+use mathlib.Core.Logic.{_≢_, dite}
+use mathlib.Core.Bool.{Bool, true, false, not, _||_}
 use mathlib.Core.List.{List}
-use Prim.Native.Nat.{ℕ, _+_, _-_, _≤_, _<_}
+use Prim.Native.Nat.{ℕ, _+_, _-_, _^_, _≤_, _<_}
 use lib.Dec.{eqb, ltb}
 use lib.ListN.{getD, length}
 use native.Mathlib.Decide.{ℕ-discrete, decLt}
@@ -12,22 +12,32 @@ use borrow.Author.Tests.{eqb-true, eq-eqb, ne-eqb, lt-ltb, le-ltb, ltb-false, no
 use Rattle.bits.specs.Some.{anyOf}
 use Rattle.records.specs.Orbit.{blankOrbit, orbitWidths}
 use Rattle.records.specs.Clock.{blankClock, clockWidths}
-use Rattle.layout.specs.Layout.{partWidths, endOf}
-use Rattle.judge.specs.Judge.{clockSlots, orbitSlots, isKind, tooLong, late, isHigh, badStart, highSlot, isAgain, twice, refusalOf}
+use Rattle.bits.specs.Bits.{Within}
+use Rattle.bits.specs.Table.{table}
+use Rattle.layout.specs.Layout.{partWidths}
+use Rattle.biases.specs.Biases.{satWidths, biasWidths, blankSat, noBiases}
+use Rattle.ura_codes.specs.Codes.{noCodes}
+use Rattle.ura_codes.specs.declared.CodePart.{CodePart}
+use Rattle.fitting.specs.Fits.{fits, allFit}
+use Rattle.bias_writing.specs.Put.{satRow, biasRow, headOf, biasesFit}
+use Rattle.biases_back.proofs.BiasesBack.{head-in, sat-in, bias-in}
+use Rattle.code_writing.specs.Codes.{codeWidths, codeRow, codeHead, codesFit}
+use Rattle.judge.specs.Judge.{clockSlots, orbitSlots, satSlots, isKind, tooLong, late, isHigh, badStart, highSlot, isAgain, twice, refusalOf}
 use Rattle.contents.specs.declared.parts.Contents.{Contents}
 use Rattle.canonical.specs.Canon.{layoutFor, canon}
 use Rattle.writing.specs.Fits.{clockRow, orbitRow, fitsAll}
 use Rattle.written_back.specs.Limits.{Octets, Once, Limits}
-use Rattle.writing.specs.Write.{contentRefusal, writeRefusal}
-use Rattle.writing.proofs.FitLaws.{all-fit}
-use Rattle.written_back.proofs.WithinLaws.{fits-within, within-fits, all-fits, fit-parts, parts-fit}
+use Rattle.writing.specs.Write.{endFor, contentRefusal, writeRefusal}
+use Rattle.fitting.proofs.FitLaws.{and-left, and-right, all-fit}
+use Rattle.fitting.proofs.WithinLaws.{fits-within, within-fits, all-fits}
+use Rattle.written_back.proofs.WithinLaws.{fit-parts, fit-biases, fit-codes, parts-fit}
 use Rattle.written_back.proofs.SearchLaws.{or-left, or-right, eqb-no, low-found, found-low, single-found, found-single}
 use Rattle.writing.proofs.TakenLaws.{first-not, content-taken}
-use Rattle.written_back.proofs.ValueLimits.{slot-low, clock-within, within-clock, orbit-within, within-orbit, head-within, within-head}
+use Rattle.written_back.proofs.ValueLimits.{slot-low, clock-within, within-clock, orbit-within, within-orbit, sat-within, within-sat, bias-within, within-bias, head-within, within-head}
 use Rattle.writing.proofs.WriteLaws.{refuses-room, refuses-content}
 
 -- where 8 to 12 do not apply, nor 16, none does
-pub content-ok : (c : Contents) → refusalOf c ≡ 0 → fitsAll c ≡ true → contentRefusal c ≡ 0
+pub content-ok : (c : Contents) → refusalOf (endFor c) c ≡ 0 → fitsAll c ≡ true → contentRefusal c ≡ 0
 unfolding contentRefusal
 content-ok c z f = rw (eq-eqb _ _ z, f)
 
@@ -45,7 +55,27 @@ clockSlot c i = getD (c .clock .clocks) i blankClock .slot
 abbrev orbitSlot : Contents → ℕ → ℕ
 orbitSlot c i = getD (c .orbit .orbits) i blankOrbit .slot
 
+abbrev satSlot : Contents → ℕ → ℕ
+satSlot c i = getD (c .bias .sats) i blankSat .slot
+
 -- ---- within the limits: taken
+biases-fit : (c : Contents) → Limits c → biasesFit (c .bias) ≡ true
+unfolding biasesFit
+biases-fit c h =
+    rw (
+      within-fits (partWidths 0 5) (headOf (c .bias)) (head-within 0 5 _ _ _ _ (h .bias)),
+      all-fits satWidths (satRow (c .bias .sats)) 31 (λ i b. sat-within _ (h .sats i b)),
+      all-fits biasWidths (biasRow (c .bias .biases)) 25 (λ i b. bias-within _ (h .biases i b)),
+    )
+
+codes-fit : (c : Contents) → Limits c → codesFit (c .code) ≡ true
+unfolding codesFit
+codes-fit c h =
+    rw (
+      within-fits (partWidths 4 3) (codeHead (c .code)) (head-within 4 3 _ _ _ _ (h .code)),
+      all-fits codeWidths (codeRow (c .code .codes)) 70 (λ i b. (h .codes i b, tt)),
+    )
+
 -- 01, 16: every field is within its width
 limits-fit : (c : Contents) → Limits c → fitsAll c ≡ true
 limits-fit c h =
@@ -58,6 +88,8 @@ limits-fit c h =
       all-fits orbitWidths (orbitRow (c .orbit .orbits)) 6 (λ i b. orbit-within _ (h .orbits i b)),
       eq-eqb _ 0 (h .last),
     )
+    (λ e. biases-fit c h)
+    (λ e. codes-fit c h)
 
 module _ (c : Contents) (h : Limits c) where
   clocks-low : anyOf isHigh (clockSlots (c .clock .clocks)) ≡ false
@@ -76,6 +108,14 @@ module _ (c : Contents) (h : Limits c) where
   unfolding orbitSlots
   orbits-single = single-found (orbitSlot c) 6 (h .orbits-once)
 
+  sats-low : anyOf isHigh (satSlots (c .bias .sats)) ≡ false
+  unfolding satSlots
+  sats-low = low-found (satSlot c) 31 (λ i b. h .sats i b .slot)
+
+  sats-single : anyOf isAgain (satSlots (c .bias .sats)) ≡ false
+  unfolding satSlots
+  sats-single = single-found (satSlot c) 31 (h .sats-once)
+
   start-good : badStart (c .kind) (c .clock .count) (c .clock .start) ≡ false
   start-good =
       dite (ℕ-discrete (c .kind) 6)
@@ -88,20 +128,24 @@ module _ (c : Contents) (h : Limits c) where
       (λ n. rw (ne-eqb (c .kind) 6 n))
 
   -- 01, 8 to 12: none applies
-  limits-judged : refusalOf c ≡ 0
+  limits-judged : refusalOf (endFor c) c ≡ 0
   unfolding refusalOf
   limits-judged =
       rw (
         h .kind,
-        le-ltb 462 (endOf (layoutFor c)) (h .end),
+        le-ltb 462 (endFor c) (h .end),
         le-ltb 86399 (c .mask .epoch) (h .mask .epoch),
         le-ltb 86399 (c .clock .epoch) (h .clock .epoch),
         le-ltb 86399 (c .orbit .epoch) (h .orbit .epoch),
+        le-ltb 86399 (c .bias .epoch) (h .bias .epoch),
+        le-ltb 86399 (c .code .epoch) (h .code .epoch),
         clocks-low,
         orbits-low,
         start-good,
         clocks-single,
         orbits-single,
+        sats-low,
+        sats-single,
       )
 
 -- every content within its limits is taken, into any room of 61 bytes
@@ -131,47 +175,111 @@ once-orbits : (c : Contents) → anyOf isAgain (orbitSlots (c .orbit .orbits)) �
 unfolding orbitSlots
 once-orbits c e = found-single (orbitSlot c) 6 e
 
--- 01, 8 to 12: what each says where none applies
-pub judged-all : (c : Contents) → refusalOf c ≡ 0 → (isKind (c .kind) ≡ true) × (endOf (layoutFor c) ≤ 462) × (late (c .mask .epoch) (c .clock .epoch) (c .orbit .epoch) ≡ false) × (highSlot (c .kind) (c .clock) (c .orbit) ≡ false) × (twice (c .clock) (c .orbit) ≡ false)
-unfolding refusalOf
-judged-all c e =
-    let n8 = first-not 8 _ (not (isKind (c .kind))) (λ z. omega arith) e in
-    let n9 = first-not 9 _ (tooLong (c .kind) (c .clock .count) (c .orbit .count)) (λ z. omega arith) (n8 .1) in
-    let n10 = first-not 10 _ (late (c .mask .epoch) (c .clock .epoch) (c .orbit .epoch)) (λ z. omega arith) (n9 .1) in
-    let n11 = first-not 11 _ (highSlot (c .kind) (c .clock) (c .orbit)) (λ z. omega arith) (n10 .1) in
-    let n12 = first-not 12 _ (twice (c .clock) (c .orbit)) (λ z. omega arith) (n11 .1) in
-    (not-false (isKind (c .kind)) (n8 .0), ltb-false 462 (endOf (layoutFor c)) (n9 .0), n10 .0, n11 .0, n12 .0)
+found-sats : (c : Contents) → anyOf isHigh (satSlots (c .bias .sats)) ≡ false → (i : ℕ) → i < 31 → satSlot c i ≤ 255
+unfolding satSlots
+found-sats c e = found-low (satSlot c) 31 e
 
-content-limits : (c : Contents) → Octets 32 (c .mask .bytes) → contentRefusal c ≡ 0 → Limits c
-content-limits c octets e =
+once-sats : (c : Contents) → anyOf isAgain (satSlots (c .bias .sats)) ≡ false → Once 31 (satSlot c)
+unfolding satSlots
+once-sats c e = found-single (satSlot c) 31 e
+
+-- 01, 8 to 12: what each says where none applies
+pub record Judged (end : ℕ) (c : Contents) : Type 0 where
+  pub kind : isKind (c .kind) ≡ true
+  pub short : end ≤ 462
+  pub early : late c ≡ false
+  pub low : (highSlot (c .kind) (c .clock) (c .orbit) || anyOf isHigh (satSlots (c .bias .sats))) ≡ false
+  pub once : (twice (c .clock) (c .orbit) || anyOf isAgain (satSlots (c .bias .sats))) ≡ false
+
+pub judged-all : (end : ℕ) (c : Contents) → refusalOf end c ≡ 0 → Judged end c
+unfolding refusalOf
+judged-all end c e =
+    let n8 = first-not 8 _ (not (isKind (c .kind))) (λ z. omega arith) e in
+    let n9 = first-not 9 _ (tooLong end) (λ z. omega arith) (n8 .1) in
+    let n10 = first-not 10 _ (late c) (λ z. omega arith) (n9 .1) in
+    let n11 = first-not 11 _ (highSlot (c .kind) (c .clock) (c .orbit) || anyOf isHigh (satSlots (c .bias .sats))) (λ z. omega arith) (n10 .1) in
+    let n12 = first-not 12 _ (twice (c .clock) (c .orbit) || anyOf isAgain (satSlots (c .bias .sats))) (λ z. omega arith) (n11 .1) in
+    record { kind = not-false (isKind (c .kind)) (n8 .0); short = ltb-false 462 end (n9 .0); early = n10 .0; low = n11 .0; once = n12 .0 }
+
+-- each epoch of five
+early-all : (a b d e f : Bool) → (a || b || d || e || f) ≡ false → (a ≡ false) × (b ≡ false) × (d ≡ false) × (e ≡ false) × (f ≡ false)
+early-all a b d e f h =
+    let o = or-left (a || b || d || e) f h in
+    let p = or-left (a || b || d) e o in
+    let q = or-left (a || b) d p in
+    (or-left a b q, or-right a b q, or-right (a || b) d p, or-right (a || b || d) e o, or-right (a || b || d || e) f h)
+
+-- 02, CR 2: the parts of types 3 and 5 are there, or all zero
+abbrev Whole : Contents → Type 0
+Whole c = (c .kind ≢ 3 → c .bias ≡ noBiases) × (c .kind ≢ 5 → c .code ≡ noCodes)
+
+no-biases-fit : biasesFit noBiases ≡ true
+unfolding noBiases biasesFit fits allFit table
+no-biases-fit = refl
+
+no-codes-fit : codesFit noCodes ≡ true
+unfolding noCodes codesFit fits allFit table
+no-codes-fit = refl
+
+whole-biases : (c : Contents) → Whole c → fitsAll c ≡ true → biasesFit (c .bias) ≡ true
+whole-biases c w f = dite (ℕ-discrete (c .kind) 3) (fit-biases c f) (λ n. rw (w .0 n) no-biases-fit)
+
+whole-codes : (c : Contents) → Whole c → fitsAll c ≡ true → codesFit (c .code) ≡ true
+whole-codes c w f = dite (ℕ-discrete (c .kind) 5) (fit-codes c f) (λ n. rw (w .1 n) no-codes-fit)
+
+code-in : (u : CodePart) → codesFit u ≡ true → Within (partWidths 4 3) (codeHead u)
+unfolding codesFit
+code-in u e = fits-within (partWidths 4 3) (codeHead u) tt (and-left _ _ e)
+
+codes-in : (u : CodePart) → codesFit u ≡ true → (i : ℕ) → i < 70 → getD (u .codes) i 0 < 2 ^ 6
+unfolding codesFit
+codes-in u e i h = fits-within codeWidths (codeRow (u .codes) i) tt (all-fit codeWidths (codeRow (u .codes)) 70 (and-right (fits (partWidths 4 3) (codeHead u)) _ e) i h) .0
+
+content-limits : (c : Contents) → Octets 32 (c .mask .bytes) → Whole c → contentRefusal c ≡ 0 → Limits c
+content-limits c octets w e =
     let l = layoutFor c in
     let k = content-taken c e in
-    let j = judged-all c (k .0) in
+    let j = judged-all (endFor c) c (k .0) in
     let f = fit-parts c (k .1) in
-    let m = ltb 86399 (c .mask .epoch) in
-    let n = ltb 86399 (c .clock .epoch) in
-    let mn = or-left (m || n) (ltb 86399 (c .orbit .epoch)) (j .2) in
+    let fb = whole-biases c w (k .1) in
+    let fu = whole-codes c w (k .1) in
+    let early = early-all _ _ _ _ _ (j .early) in
     let hk = anyOf isHigh (clockSlots (c .clock .clocks)) in
     let ho = anyOf isHigh (orbitSlots (c .orbit .orbits)) in
+    let hs = anyOf isHigh (satSlots (c .bias .sats)) in
     let bad = badStart (c .kind) (c .clock .count) (c .clock .start) in
-    let high = or-left (hk || ho) bad (j .3) in
+    let low = or-left (hk || ho || bad) hs (j .low) in
+    let high = or-left (hk || ho) bad low in
     let ak = anyOf isAgain (clockSlots (c .clock .clocks)) in
     let ao = anyOf isAgain (orbitSlots (c .orbit .orbits)) in
+    let ab = anyOf isAgain (satSlots (c .bias .sats)) in
+    let once = or-left (ak || ao) ab (j .once) in
     record {
-      kind = j .0;
-      end = j .1;
-      mask = within-head 4 0 _ _ _ _ (ltb-false 86399 (c .mask .epoch) (or-left m n mn)) (fits-within (partWidths 4 0) _ tt (f .0));
-      clock = within-head (l .iodp) (l .start) _ _ _ _ (ltb-false 86399 (c .clock .epoch) (or-right m n mn)) (fits-within (partWidths (l .iodp) (l .start)) _ tt (f .1));
-      orbit = within-head 0 0 _ _ _ _ (ltb-false 86399 (c .orbit .epoch) (or-right (m || n) (ltb 86399 (c .orbit .epoch)) (j .2))) (fits-within (partWidths 0 0) _ tt (f .2));
-      start = start-right (c .kind) (c .clock .count) (c .clock .start) (or-right (hk || ho) bad (j .3));
+      kind = j .kind;
+      end = j .short;
+      mask = within-head 4 0 _ _ _ _ (ltb-false 86399 (c .mask .epoch) (early .0)) (fits-within (partWidths 4 0) _ tt (f .0));
+      clock = within-head (l .iodp) (l .start) _ _ _ _ (ltb-false 86399 (c .clock .epoch) (early .1)) (fits-within (partWidths (l .iodp) (l .start)) _ tt (f .1));
+      orbit = within-head 0 0 _ _ _ _ (ltb-false 86399 (c .orbit .epoch) (early .2)) (fits-within (partWidths 0 0) _ tt (f .2));
+      bias = within-head 0 5 _ _ _ _ (ltb-false 86399 (c .bias .epoch) (early .3)) (head-in (c .bias) fb);
+      code = within-head 4 3 _ _ _ _ (ltb-false 86399 (c .code .epoch) (early .4)) (code-in (c .code) fu);
+      start = start-right (c .kind) (c .clock .count) (c .clock .start) (or-right (hk || ho) bad low);
       clocks = λ i b. within-clock (l .slotted) _ (found-clocks c (or-left hk ho high) i b) (fits-within (clockWidths (l .slotted)) _ tt (all-fit (clockWidths (l .slotted)) (clockRow (c .clock .clocks)) 23 (f .3) i b));
       orbits = λ i b. within-orbit _ (found-orbits c (or-right hk ho high) i b) (fits-within orbitWidths _ tt (all-fit orbitWidths (orbitRow (c .orbit .orbits)) 6 (f .4) i b));
-      clocks-once = once-clocks c (or-left ak ao (j .4));
-      orbits-once = once-orbits c (or-right ak ao (j .4));
+      sats = λ i b. within-sat _ (found-sats c (or-right (hk || ho || bad) hs (j .low)) i b) (sat-in (c .bias) fb i b);
+      biases = λ i b. within-bias _ (bias-in (c .bias) fb i b);
+      codes = codes-in (c .code) fu;
+      clocks-once = once-clocks c (or-left ak ao once);
+      orbits-once = once-orbits c (or-right ak ao once);
+      sats-once = once-sats c (or-right (ak || ao) ab (j .once));
       bytes = octets;
       last = eqb-true _ 0 (f .5);
     }
 
+-- canonical contents have no other parts than their type's
+canon-whole : (c : Contents) → Whole (canon c)
+unfolding canon
+canon-whole c = (λ n. rw (ne-eqb (c .kind) 3 n), λ n. rw (ne-eqb (c .kind) 5 n))
+
 -- what is taken is within its limits
 pub taken-limits : (room : List ℕ) (c : Contents) → Octets 32 (canon c .mask .bytes) → writeRefusal room c ≡ 0 → Limits (canon c)
-taken-limits room c octets e = content-limits (canon c) octets (write-taken room c e .1)
+taken-limits room c octets e = content-limits (canon c) octets (canon-whole c) (write-taken room c e .1)

@@ -1,19 +1,18 @@
 -- Each part is read back as it was put, whatever is put after it.
 use mathlib.Core.Path.{_≡_, refl, sym, ap, _∙_, subst}
 use mathlib.Core.Logic.{dite, _≢_}
-use mathlib.Core.Bool.{Bool, true}
+use mathlib.Core.Bool.{true}
 use mathlib.Core.List.{List}
-use Prim.Native.Nat.{ℕ, suc, _+_, _*_, _^_, _≤_, _<_}
+use Prim.Native.Nat.{ℕ, _+_, _*_, _≤_, _<_}
 use lib.ListN.{getD, length}
-use native.Mathlib.Nat.{mul-suc, mul-le-mul-left, one-mul}
+use native.Mathlib.Nat.{one-mul}
 use native.Mathlib.Decide.{decLt}
 use native.Mathlib.Omega.{arith}
 use borrow.Author.Tests.{ne-eqb, lt-ltb, le-ltb}
 use Rattle.bits.specs.Pick.{pick}
 use Rattle.bits.specs.Bits.{bitAt, fieldAt, fieldsAt, putsAt, putRows, total, Within}
-use Rattle.bits.proofs.RowLaws.{fields-puts, rows-back, length-puts}
 use Rattle.bits.proofs.FieldLaws.{bit-lt, one-bit}
-use Rattle.bits.proofs.TableLaws.{table-ext, table-same}
+use Rattle.bits.proofs.TableLaws.{table-ext}
 use Rattle.records.specs.Orbit.{blankOrbit, orbitWidths, orbitOf}
 use Rattle.records.specs.Clock.{blankClock, clockWidths, clockOf}
 use Rattle.layout.specs.Layout.{partWidths, orbitsFrom, endOf}
@@ -25,36 +24,14 @@ use Rattle.contents.specs.declared.parts.OrbitPart.{OrbitPart}
 use Rattle.contents.proofs.MaskLaws.{bytes-back}
 use Rattle.layout.proofs.LayoutLaws.{from-some, clock-total}
 use Rattle.canonical.specs.Canon.{canonClockNth, canonClockRows, canonClocks, canonOrbitNth, canonOrbitRows, canonOrbits}
-use Rattle.writing.specs.Fits.{headVals, clockRow, orbitRow}
+use Rattle.fitting.specs.Fits.{headVals}
+use Rattle.writing.specs.Fits.{clockRow, orbitRow}
 use Rattle.writing.specs.Write.{maskWidths, maskRow, maskPut, clocksPut, orbitsPut}
 use Rattle.written_back.specs.Limits.{Octets}
-use Rattle.written_back.proofs.BesideLaws.{Beside, rows-beside, beside-fields}
+use Rattle.fitting.proofs.BesideLaws.{Beside}
+use Rattle.fitting.proofs.PartBack.{head-back, row-back}
 use Rattle.written_back.proofs.RecordsBack.{clock-back, orbit-back, none-back}
 use Rattle.writing.proofs.TakenLaws.{end-some}
-
--- ---- a head and n records of one layout after it, in u; and t, which is u but for the bits from lo to hi
-module _ (s t u : List ℕ) (at from lo hi : ℕ) (hs vs ws : List ℕ) (f : ℕ → List ℕ) (n : ℕ) (begin : from ≡ at + total hs) (end : lo ≡ from + total ws * n) (room : lo ≤ 8 * length s) (made : u ≡ putRows (putsAt s at hs vs) from ws f n) (kept : Beside lo hi u t) where
-  put : List ℕ
-  put = putsAt s at hs vs
-
-  rows : List ℕ
-  rows = putRows put from ws f n
-
-  head-back : Within hs vs → fieldsAt t at hs ≡ vs
-  unfolding put rows
-  head-back w =
-      beside-fields lo hi u t at hs kept (omega arith)
-      ∙ ap (λ (x : List ℕ). fieldsAt x at hs) made
-      ∙ beside-fields from (from + total ws * n) put rows at hs (rows-beside put from ws f n) (omega arith)
-      ∙ fields-puts s at hs vs (omega arith) w
-
-  row-back : (i : ℕ) → i < n → Within ws (f i) → fieldsAt t (from + total ws * i) ws ≡ f i
-  unfolding put rows
-  row-back i h w =
-      let m : total ws * suc i ≤ total ws * n = mul-le-mul-left (total ws) h in
-      beside-fields lo hi u t (from + total ws * i) ws kept (omega (arith, mul-suc (total ws) i))
-      ∙ ap (λ (x : List ℕ). fieldsAt x (from + total ws * i) ws) made
-      ∙ rows-back put from ws f n (omega (arith, length-puts s at hs vs)) i h w
 
 -- ---- the clock part
 module _ (s t : List ℕ) (hi : ℕ) (l : Layout) (k : ClockPart) (ne : l .clocks ≢ 0) (room : orbitsFrom l ≤ 8 * length s) (kept : Beside (orbitsFrom l) hi (clocksPut s l k) t) (fh : Within (partWidths (l .iodp) (l .start)) (headVals (k .epoch) (k .ssr) (k .iodp) (k .start))) (fr : (i : ℕ) → i < l .clocks → Within (clockWidths (l .slotted)) (clockRow (k .clocks) i)) where

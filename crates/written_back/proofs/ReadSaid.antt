@@ -19,7 +19,11 @@ use Rattle.records.specs.declared.orbit.Orbit.{Orbit}
 use Rattle.records.specs.declared.clock.Clock.{Clock}
 use Rattle.ura.proofs.UraLaws.{code-back}
 use Rattle.layout.specs.Layout.{partWidths, orbitsFrom}
-use Rattle.contents.specs.Parts.{clockNth, clocksAt, orbitNth, orbitsAt, noMask, noClocks, noOrbits, maskPartAt, clockPartAt, orbitPartAt, maskIn, clocksIn, orbitsIn, layoutAt, contentsAt}
+use Rattle.contents.specs.Parts.{clockNth, clocksAt, orbitNth, orbitsAt, noMask, noClocks, noOrbits, maskPartAt, clockPartAt, orbitPartAt, maskIn, clocksIn, orbitsIn, biasesIn, codesIn, layoutAt, contentsAt}
+use Rattle.bias_writing.specs.Put.{biasesFit}
+use Rattle.biases_back.proofs.ReadLaws.{read-fits as biases-read-fits}
+use Rattle.code_writing.specs.Codes.{codesFit}
+use Rattle.code_writing.proofs.CodesBack.{read-fits as codes-read-fits}
 use Rattle.layout.specs.declared.Layout.{Layout}
 use Rattle.contents.specs.declared.parts.MaskPart.{MaskPart}
 use Rattle.contents.specs.declared.parts.ClockPart.{ClockPart}
@@ -27,9 +31,11 @@ use Rattle.contents.specs.declared.parts.OrbitPart.{OrbitPart}
 use Rattle.contents.proofs.MaskLaws.{mask-last, none-bit}
 use Rattle.layout.proofs.LayoutLaws.{pick-all}
 use Rattle.canonical.proofs.CanonLaws.{layout-read}
-use Rattle.writing.specs.Fits.{clockVals, orbitVals, headVals, clockRow, orbitRow, fitsAll}
-use Rattle.written_back.proofs.RawBack.{raw-or-read}
-use Rattle.written_back.proofs.WithinLaws.{within-fits, all-fits, parts-fit}
+use Rattle.fitting.specs.Fits.{headVals}
+use Rattle.writing.specs.Fits.{clockVals, orbitVals, clockRow, orbitRow, fitsAll}
+use Rattle.fitting.proofs.RawBack.{raw-or-read}
+use Rattle.fitting.proofs.WithinLaws.{within-fits, all-fits}
+use Rattle.written_back.proofs.WithinLaws.{parts-fit}
 
 -- each value is the field of s at its offset, or 0
 abbrev pub Said : List ℕ → ℕ → List ℕ → List ℕ → Type 0
@@ -162,6 +168,14 @@ last-read : (s : List ℕ) (at : ℕ) (l : Layout) → bitAt (maskIn s at l .byt
 unfolding maskIn
 last-read s at l = pick-all (λ (m : MaskPart). bitAt (m .bytes) 255 ≡ 0) (l .mask) (maskPartAt s (at + l .head)) noMask (mask-last s (at + l .head + 27)) (none-bit 255)
 
+biases-fit : (s : List ℕ) (at kind : ℕ) → kind ≡ 3 → biasesFit (biasesIn s at kind) ≡ true
+unfolding biasesIn
+biases-fit s at kind e = rw (eq-eqb kind 3 e) (biases-read-fits s (at + 6))
+
+codes-fit : (s : List ℕ) (at kind : ℕ) → kind ≡ 5 → codesFit (codesIn s at kind) ≡ true
+unfolding codesIn
+codes-fit s at kind e = rw (eq-eqb kind 5 e) (codes-read-fits s (at + 6))
+
 -- 01, 16: what was read, from any bytes, is within its widths
 pub read-fits : (s : List ℕ) (at : ℕ) → fitsAll (contentsAt s at) ≡ true
 unfolding contentsAt
@@ -184,3 +198,5 @@ read-fits s at =
       all-fits orbitWidths (orbitRow (o .orbits)) 6 (λ i h. said-within s (at + orbitsFrom l + 23 + 69 * i) orbitWidths (orbitRow (o .orbits) i) (orbits-said s at l i h)),
       eq-eqb _ 0 (last-read s at l),
     ))
+    (biases-fit s at (fieldAt s at 6))
+    (codes-fit s at (fieldAt s at 6))

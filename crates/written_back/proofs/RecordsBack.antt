@@ -17,8 +17,9 @@ use Rattle.records.specs.declared.orbit.Orbit.{Orbit}
 use Rattle.records.specs.declared.clock.Clock.{Clock}
 use Rattle.ura.proofs.UraLaws.{ura-back}
 use Rattle.canonical.specs.Canon.{canonClock, canonOrbit}
-use Rattle.writing.specs.Fits.{rawOr, clockVals, orbitVals}
-use Rattle.written_back.proofs.RawBack.{raw-back}
+use Rattle.fitting.specs.Fits.{rawOr}
+use Rattle.writing.specs.Fits.{clockVals, orbitVals}
+use Rattle.fitting.proofs.RawBack.{raw-back}
 
 pub clock-back : (slotted : Bool) (k : Clock) → Within (clockWidths slotted) (clockVals k) → clockOf slotted (clockVals k) ≡ canonClock slotted k
 clock-back true k w =

@@ -7,7 +7,7 @@ use native.Mathlib.Decide.{ℕ-discrete}
 use native.Mathlib.Omega.{arith}
 use borrow.Author.Tests.{eq-eqb, ne-eqb}
 use Rattle.bits.specs.Pick.{pick}
-use Rattle.bits.specs.Bits.{putsAt, putRows, total}
+use Rattle.bits.specs.Bits.{total}
 use Rattle.records.specs.Orbit.{orbitWidths}
 use Rattle.records.specs.Clock.{clockWidths}
 use Rattle.layout.specs.Layout.{partWidths, orbitsFrom, endOf}
@@ -19,20 +19,12 @@ use Rattle.layout.proofs.LayoutLaws.{clock-total}
 use Rattle.canonical.proofs.KindLaws.{Headed}
 use Rattle.writing.specs.Fits.{clockRow, orbitRow}
 use Rattle.writing.specs.Write.{headPut, maskWidths, maskRow, maskPut, clocksPut, orbitsPut}
-use Rattle.written_back.proofs.BesideLaws.{Beside, beside-same, beside-then, beside-wide, beside-pick, puts-beside, rows-beside}
+use Rattle.fitting.proofs.BesideLaws.{Beside, beside-same, beside-pick, puts-beside, part-beside}
 
 pub head-beside : (s : List ℕ) (kind : ℕ) (l : Layout) → Headed l → Beside 0 (l .head) s (headPut s kind l)
 unfolding headPut
 head-beside s kind l (inl e) = rw e (puts-beside s 0 (6 ∷ 0 ∷ 0 ∷ []) (kind ∷ l .clocks ∷ l .orbits ∷ []))
 head-beside s kind l (inr e) = rw e (puts-beside s 0 (6 ∷ 5 ∷ 3 ∷ []) (kind ∷ l .clocks ∷ l .orbits ∷ []))
-
--- a head and the records after it
-part-beside : (s : List ℕ) (at from hi : ℕ) (hs vs ws : List ℕ) (f : ℕ → List ℕ) (n : ℕ) → from ≡ at + total hs → hi ≡ from + total ws * n → Beside at hi s (putRows (putsAt s at hs vs) from ws f n)
-part-beside s at from hi hs vs ws f n b e =
-    let p = putsAt s at hs vs in
-    beside-then at hi s p (putRows p from ws f n)
-    (beside-wide at (at + total hs) at hi s p (omega arith) (omega arith) (puts-beside s at hs vs))
-    (beside-wide from (from + total ws * n) at hi p (putRows p from ws f n) (omega arith) (omega arith) (rows-beside p from ws f n))
 
 pub mask-beside : (s : List ℕ) (l : Layout) (m : MaskPart) → Beside (l .head) (l .head + 27 + 255) s (maskPut s l m)
 unfolding maskPut

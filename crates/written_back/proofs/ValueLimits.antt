@@ -19,9 +19,14 @@ use Rattle.records.specs.declared.orbit.Orbit.{Orbit}
 use Rattle.records.specs.declared.clock.Clock.{Clock}
 use Rattle.ura.proofs.UraLaws.{code-right}
 use Rattle.layout.specs.Layout.{partWidths}
-use Rattle.writing.specs.Fits.{clockVals, orbitVals, headVals}
-use Rattle.written_back.specs.Limits.{Ranged, Coded, HeadLimits, ClockLimits, OrbitLimits}
-use Rattle.written_back.proofs.RawBack.{raw-or-lt, raw-or-mag}
+use Rattle.fitting.specs.Fits.{headVals}
+use Rattle.writing.specs.Fits.{clockVals, orbitVals}
+use Rattle.biases.specs.Biases.{satWidths, biasWidths}
+use Rattle.biases.specs.declared.BiasSat.{BiasSat}
+use Rattle.biases.specs.declared.Bias.{Bias}
+use Rattle.bias_writing.specs.Put.{satVals, biasVals}
+use Rattle.written_back.specs.Limits.{Ranged, Coded, HeadLimits, ClockLimits, OrbitLimits, SatLimits, BiasLimits}
+use Rattle.fitting.proofs.RawBack.{raw-or-lt, raw-or-mag}
 
 -- ---- a signed number
 ranged-mag : (n : ℕ) (z : ℤ) → Ranged n z → mag z < 2 ^ (n - 1)
@@ -108,6 +113,19 @@ within-orbit o l w =
       cross = mag-ranged 13 (o .cross) (raw-or-mag 4096 (o .cross) (r .1 .1 .0));
       ura = lt-coded (o .ura) (omega (arith, d));
     }
+
+-- ---- a satellite of a type 3, and a bias
+pub sat-within : (r : BiasSat) → SatLimits r → Within satWidths (satVals r)
+sat-within r h = (omega (arith, h .slot), (h .count, tt))
+
+pub within-sat : (r : BiasSat) → r .slot ≤ 255 → Within satWidths (satVals r) → SatLimits r
+within-sat r l w = record { slot = l; count = w .1 .0 }
+
+pub bias-within : (b : Bias) → BiasLimits b → Within biasWidths (biasVals b)
+bias-within b h = (h .mode, (raw-or-lt 2048 (b .value) (ranged-mag 12 (b .value) (h .value)), tt))
+
+pub within-bias : (b : Bias) → Within biasWidths (biasVals b) → BiasLimits b
+within-bias b w = record { mode = w .0; value = mag-ranged 12 (b .value) (raw-or-mag 2048 (b .value) (w .1 .0)) }
 
 -- ---- the head of a part
 pub head-within : (iodp start epoch ssr p v : ℕ) → HeadLimits iodp start epoch ssr p v → Within (partWidths iodp start) (headVals epoch ssr p v)

@@ -1,54 +1,24 @@
--- What the test of 16 says: every value within its width, row by row and part by part.
-use mathlib.Core.Path.{_≡_, refl}
+-- What the test of 16 says, part by part.
+use mathlib.Core.Path.{_≡_}
+use mathlib.Core.Logic.{dite}
 use mathlib.Core.Bool.{Bool, true, _&&_}
-use mathlib.Core.List.{List, [], _∷_}
-use Prim.Native.Nat.{ℕ, zero, suc, _<_, _^_}
-use lib.Dec.{eqb, ltb}
-use native.Mathlib.Omega.{arith}
-use borrow.Author.Tests.{ltb-true, lt-ltb}
-use Rattle.bits.specs.Bits.{bitAt, Within}
+use Prim.Native.Nat.{ℕ}
+use lib.Dec.{eqb}
+use native.Mathlib.Decide.{ℕ-discrete}
+use borrow.Author.Tests.{eq-eqb, ne-eqb}
+use Rattle.bits.specs.Pick.{pick}
+use Rattle.bits.specs.Bits.{bitAt}
 use Rattle.records.specs.Orbit.{orbitWidths}
 use Rattle.records.specs.Clock.{clockWidths}
 use Rattle.layout.specs.Layout.{partWidths}
 use Rattle.layout.specs.declared.Layout.{Layout}
 use Rattle.contents.specs.declared.parts.Contents.{Contents}
 use Rattle.canonical.specs.Canon.{layoutFor}
-use Rattle.writing.specs.Fits.{headVals, clockRow, orbitRow, fits, allFit, fitsAll}
-use Rattle.writing.proofs.FitLaws.{and-left, and-right}
-
--- two tests that hold, together
-and-both : (a b : Bool) → a ≡ true → b ≡ true → (a && b) ≡ true
-and-both a b p q = rw (p, q)
-
--- as many values as widths
-abbrev pub Paired : List ℕ → List ℕ → Type 0
-Paired [] [] = Unit {0}
-Paired [] (v ∷ vs) = ⊥
-Paired (w ∷ ws) [] = ⊥
-Paired (w ∷ ws) (v ∷ vs) = Paired ws vs
-
--- what the test says of a row
-pub fits-within : (ws vs : List ℕ) → Paired ws vs → fits ws vs ≡ true → Within ws vs
-unfolding fits
-fits-within [] [] p e = tt
-fits-within [] (v ∷ vs) p e = absurd p
-fits-within (w ∷ ws) [] p e = absurd p
-fits-within (w ∷ ws) (v ∷ vs) p e =
-    (ltb-true v (2 ^ w) (and-left (ltb v (2 ^ w)) (fits ws vs) e), fits-within ws vs p (and-right (ltb v (2 ^ w)) (fits ws vs) e))
-
--- and what it asks of it
-pub within-fits : (ws vs : List ℕ) → Within ws vs → fits ws vs ≡ true
-unfolding fits
-within-fits [] vs w = refl
-within-fits (x ∷ ws) [] w = refl
-within-fits (x ∷ ws) (v ∷ vs) w = and-both (ltb v (2 ^ x)) (fits ws vs) (lt-ltb v (2 ^ x) (w .0)) (within-fits ws vs (w .1))
-
--- of each of n records
-pub all-fits : (ws : List ℕ) (f : ℕ → List ℕ) (n : ℕ) → ((i : ℕ) → i < n → Within ws (f i)) → allFit ws f n ≡ true
-unfolding allFit
-all-fits ws f zero h = refl
-all-fits ws f (suc n) h =
-    and-both (allFit ws f n) (fits ws (f n)) (all-fits ws f n (λ i l. h i (omega arith))) (within-fits ws (f n) (h n (omega arith)))
+use Rattle.fitting.specs.Fits.{headVals, fits, allFit}
+use Rattle.fitting.proofs.FitLaws.{and-left, and-right}
+use Rattle.bias_writing.specs.Put.{biasesFit}
+use Rattle.code_writing.specs.Codes.{codesFit}
+use Rattle.writing.specs.Fits.{clockRow, orbitRow, partsFit, lastFit, fitsAll}
 
 -- ---- the parts of the test of 16
 six : (a b c d e f : Bool) → (a && b && c && d && e && f) ≡ true → (a ≡ true) × (b ≡ true) × (c ≡ true) × (d ≡ true) × (e ≡ true) × (f ≡ true)
@@ -70,9 +40,26 @@ Parts l c =
     × (eqb (bitAt (c .mask .bytes) 255) 0 ≡ true)
 
 pub fit-parts : (c : Contents) → fitsAll c ≡ true → Parts (layoutFor c) c
-unfolding fitsAll
-fit-parts c e = six _ _ _ _ _ _ e
+unfolding fitsAll partsFit
+fit-parts c e = six _ _ _ _ _ _ (and-left (partsFit c) (lastFit (c .kind) (c .bias) (c .code)) e)
 
-pub parts-fit : (c : Contents) → Parts (layoutFor c) c → fitsAll c ≡ true
+-- 02, CR 2: the biases of a type 3, and the URA codes of a type 5
+pub fit-biases : (c : Contents) → fitsAll c ≡ true → c .kind ≡ 3 → biasesFit (c .bias) ≡ true
 unfolding fitsAll
-parts-fit c p = rw (p .0, p .1, p .2, p .3, p .4, p .5)
+fit-biases c e k =
+    let h = and-right (partsFit c) (lastFit (c .kind) (c .bias) (c .code)) e in
+    rw (eq-eqb (c .kind) 3 k) at (and-left (pick (eqb (c .kind) 3) (biasesFit (c .bias)) true) (pick (eqb (c .kind) 5) (codesFit (c .code)) true) h)
+
+pub fit-codes : (c : Contents) → fitsAll c ≡ true → c .kind ≡ 5 → codesFit (c .code) ≡ true
+unfolding fitsAll
+fit-codes c e k =
+    let h = and-right (partsFit c) (lastFit (c .kind) (c .bias) (c .code)) e in
+    rw (eq-eqb (c .kind) 5 k) at (and-right (pick (eqb (c .kind) 3) (biasesFit (c .bias)) true) (pick (eqb (c .kind) 5) (codesFit (c .code)) true) h)
+
+-- a test where it applies
+picked : (k n : ℕ) (b : Bool) → (k ≡ n → b ≡ true) → pick (eqb k n) b true ≡ true
+picked k n b h = dite (ℕ-discrete k n) (λ e. rw (eq-eqb k n e) (h e)) (λ ne. rw (ne-eqb k n ne))
+
+pub parts-fit : (c : Contents) → Parts (layoutFor c) c → (c .kind ≡ 3 → biasesFit (c .bias) ≡ true) → (c .kind ≡ 5 → codesFit (c .code) ≡ true) → fitsAll c ≡ true
+unfolding fitsAll partsFit
+parts-fit c p b u = rw (p .0, p .1, p .2, p .3, p .4, p .5, picked (c .kind) 3 (biasesFit (c .bias)) b, picked (c .kind) 5 (codesFit (c .code)) u)

@@ -2,8 +2,8 @@ use borrow.Author.Needs.{needs}
 use Rattle.absent.proofs.why_absent.Statement.{statement}
 use Rattle.absent.proofs.why_absent.Tie as tie
 
-get-orbit-requires : tie.Need-get-orbit-requires
-get-orbit-requires c κs = search needs
+coded-orbit-requires : tie.Need-coded-orbit-requires
+coded-orbit-requires c κs = search needs
 
 get-clock-requires : tie.Need-get-clock-requires
 get-clock-requires c κs = search needs
@@ -17,7 +17,7 @@ why-of-requires c κs = search needs
 returns : tie.Need-returns
 returns c =
     let k = c .before .before in
-    rw (c .before .mask-ssr .ensures, k .get-clock .ensures, k .before .get-orbit .ensures) at (c .why-of .ensures)
+    rw (c .before .mask-ssr .ensures, k .get-clock .ensures, k .before .coded-orbit .ensures) at (c .why-of .ensures)
 
 pub why-absent-spec : {M : Type 1} → statement M
-why-absent-spec = tie.close (tie.spec get-orbit-requires get-clock-requires mask-ssr-requires why-of-requires returns)
+why-absent-spec = tie.close (tie.spec coded-orbit-requires get-clock-requires mask-ssr-requires why-of-requires returns)

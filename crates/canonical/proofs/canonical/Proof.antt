@@ -15,14 +15,23 @@ canon-clocks-requires c κs = search needs
 canon-orbits-requires : tie.Need-canon-orbits-requires
 canon-orbits-requires c κs = search needs
 
+canon-bias-part-requires : tie.Need-canon-bias-part-requires
+canon-bias-part-requires c κs = search needs
+
+canon-code-part-requires : tie.Need-canon-code-part-requires
+canon-code-part-requires c κs = search needs
+
 returns : tie.Need-returns
 unfolding canon
 returns c =
+    let o = c .before .before in
     rw (
-      c .canon-orbits .ensures,
-      c .before .canon-clocks .ensures,
-      c .before .before .canon-mask .ensures,
-      c .before .before .before .layout-of .ensures,
+      c .canon-code-part .ensures,
+      c .before .canon-bias-part .ensures,
+      o .canon-orbits .ensures,
+      o .before .canon-clocks .ensures,
+      o .before .before .canon-mask .ensures,
+      o .before .before .before .layout-of .ensures,
     )
 
 pub canonical-spec : {M : Type 1} → statement M
@@ -33,4 +42,6 @@ canonical-spec =
     canon-mask-requires
     canon-clocks-requires
     canon-orbits-requires
+    canon-bias-part-requires
+    canon-code-part-requires
     returns)

@@ -1,7 +1,7 @@
 -- Each byte is its digit; radial, along and cross are what they were before the calls.
 use borrow.Author.Needs.{needs}
 use mathlib.Core.Path.{_≡_, _∙_, ap}
-use Rattle.flat_forms.specs.Write.{word}
+use Rattle.flat_numbers.specs.Rows.{word}
 use Rattle.flat_forms.proofs.FlatLaws.{orbit-same}
 use mir.Syntax.{w16}
 use mir.Val.{toZ, ofZ}

@@ -5,8 +5,9 @@ use Prim.Native.Nat.{_-_, _≤_}
 use mathlib.Core.Path.{_≡_, _∙_, refl}
 use lib.ListN.{length}
 use Rattle.bits.specs.Bytes.{storeAt}
-use Rattle.flat_forms.specs.Write.{flatClockRow, rowsTo}
-use Rattle.flat_forms.proofs.StoreLaws.{rows-start, rows-next}
+use Rattle.flat_numbers.specs.Rows.{rowsTo}
+use Rattle.flat_forms.specs.Write.{flatClockRow}
+use Rattle.flat_numbers.proofs.RowLaws.{rows-start, rows-next}
 use Rattle.flat_forms.proofs.put_clocks.Statement.{statement}
 use Rattle.flat_forms.proofs.put_clocks.Tie as tie
 

@@ -8,8 +8,8 @@ use lib.ListN.{length, getD}
 use mir.Syntax.{w64}
 use mir.Val.{toZ, ofZ}
 use Rattle.bits.specs.Bytes.{storeAt}
-use Rattle.flat_forms.specs.Write.{rowsTo}
-use Rattle.flat_forms.proofs.StoreLaws.{rows-start, rows-next}
+use Rattle.flat_numbers.specs.Rows.{rowsTo}
+use Rattle.flat_numbers.proofs.RowLaws.{rows-start, rows-next}
 use Rattle.flat_subframe2.specs.Write.{flatField, fieldsBytes}
 use Rattle.flat_subframe2.proofs.put_fields.Statement.{statement}
 use Rattle.flat_subframe2.proofs.put_fields.Tie as tie

@@ -19,30 +19,16 @@ returns c =
     let shell = tested .before .before .shell-verdict in
     way-shut _ _ (shell .result) (c .no-contents .result) (shell .ensures) (c .no-contents .ensures) (λ z. tested .if1 .taken (tested .before .number-of .ensures ∙ z))
 
-contents-at-requires : tie.Need-contents-at-requires
-contents-at-requires c κs = search needs
-
-refusal-of-requires : tie.Need-refusal-of-requires
-refusal-of-requires c κs = search needs
-
-answer-of-requires : tie.Need-answer-of-requires
-answer-of-requires c κs = search needs
+read-at-requires : tie.Need-read-at-requires
+read-at-requires c κs = search needs
 
 returns-2 : tie.Need-returns-2
 returns-2 c =
-    let tested = c .before .before .before in
+    let tested = c .before in
     let shell = tested .before .before .shell-verdict in
-    way-open _ _ (shell .result) (c .answer-of .result) (shell .ensures) (sym (tested .before .number-of .ensures) ∙ tested .if1 .left) (rw (← (c .before .before .contents-at .ensures), ← (c .before .refusal-of .ensures)) (c .answer-of .ensures))
+    way-open _ _ (shell .result) (c .read-at .result) (shell .ensures) (sym (tested .before .number-of .ensures) ∙ tested .if1 .left) (c .read-at .ensures)
 
 pub read-with-spec : {M : Type 1} → statement M
 read-with-spec =
     tie.close
-    (tie.spec
-    shell-verdict-requires
-    number-of-requires
-    no-contents-requires
-    returns
-    contents-at-requires
-    refusal-of-requires
-    answer-of-requires
-    returns-2)
+    (tie.spec shell-verdict-requires number-of-requires no-contents-requires returns read-at-requires returns-2)

@@ -15,9 +15,24 @@ read-clock-part-requires c κs = search needs
 read-orbit-part-requires : tie.Need-read-orbit-part-requires
 read-orbit-part-requires c κs = search needs
 
+read-bias-part-requires : tie.Need-read-bias-part-requires
+read-bias-part-requires c κs = search needs
+
+read-code-part-requires : tie.Need-read-code-part-requires
+read-code-part-requires c κs = search needs
+
 returns : tie.Need-returns
 unfolding flatContentsOf
-returns c = rw (c .read-orbit-part .ensures, c .before .read-clock-part .ensures, c .before .before .read-mask .ensures, c .before .before .before .byte .ensures)
+returns c =
+    let o = c .before .before in
+    rw (
+      c .read-code-part .ensures,
+      c .before .read-bias-part .ensures,
+      o .read-orbit-part .ensures,
+      o .before .read-clock-part .ensures,
+      o .before .before .read-mask .ensures,
+      o .before .before .before .byte .ensures,
+    )
 
 pub contents-of-spec : {M : Type 1} → statement M
 contents-of-spec =
@@ -27,4 +42,6 @@ contents-of-spec =
     read-mask-requires
     read-clock-part-requires
     read-orbit-part-requires
+    read-bias-part-requires
+    read-code-part-requires
     returns)

@@ -1,12 +1,12 @@
 use borrow.Author.Needs.{needs}
 use native.Mathlib.Omega.{arith}
 use Prim.Native.Nat.{ℕ, _≤_}
-use mathlib.Core.Path.{_≡_, sym, ap, _∙_}
-use lib.ListN.{drop}
+use mathlib.Core.Path.{_≡_, ap, _∙_}
+use lib.ListN.{drop, getD}
 use Rattle.bits.specs.Some.{anyOf}
-use Rattle.bits.proofs.SomeLaws.{some-end}
+use Rattle.records.specs.Clock.{blankClock}
 use Rattle.judge.specs.Judge.{isNamed, clockSlots}
-use Rattle.judge.proofs.JudgeLaws.{slots-long, named-turn}
+use Rattle.judge.proofs.JudgeLaws.{named-end, named-turn}
 use Rattle.judge.proofs.any_named.Statement.{statement}
 use Rattle.judge.proofs.any_named.Tie as tie
 
@@ -17,9 +17,8 @@ abbrev μ-loop : tie.MeasureT-loop
 μ-loop ks seen₀ i₀ seen i = i
 
 loop-holds : tie.Need-loop-holds Inv-loop μ-loop
-loop-holds c =
-    let slots = clockSlots (c .args .t1) in
-    (omega arith, sym (some-end isNamed slots 23 (rw (slots-long (c .args .t1)) (omega arith))))
+unfolding clockSlots
+loop-holds c = (omega arith, named-end (λ (i : ℕ). getD (c .args .t1) i blankClock .slot) 23)
 
 sub-i : tie.Need-sub-i Inv-loop μ-loop
 sub-i c = search needs
@@ -34,9 +33,11 @@ loop-less : tie.Need-loop-less Inv-loop μ-loop
 loop-less c = search needs
 
 loop-again : tie.Need-loop-again Inv-loop μ-loop
+unfolding clockSlots
 loop-again c =
     let i = c .before .before .before .loop in
-    (omega arith, named-turn _ (i .i) (i .seen) (omega arith) (omega arith) (i .inv .1))
+    let ks = c .before .before .before .before .args .t1 in
+    (omega arith, named-turn (λ (j : ℕ). getD ks j blankClock .slot) 23 (i .i) (i .seen) (omega arith) (omega arith) (i .inv .1))
 
 returns : tie.Need-returns Inv-loop μ-loop
 returns c =

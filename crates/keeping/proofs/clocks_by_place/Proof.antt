@@ -11,8 +11,8 @@ use lib.ListN.{length, take, drop, length-take}
 use lib.Seq.{getD-take}
 use Rattle.records.specs.Clock.{blankClock}
 use Rattle.contents.proofs.BlankLaws.{turn, stop}
-use Rattle.held_clocks.specs.Clocks.{clockReplaces, noClock, heldClockOf, heldClockBytes, replaceClocks}
-use Rattle.held_clocks.proofs.ClockLaws.{clock-long}
+use Rattle.held_clocks.specs.Clocks.{replaceClock, replaceClocks}
+use Rattle.held_clocks.proofs.ClockLaws.{clock-nowhere}
 use Rattle.slots.specs.Slots.{nthFrom, nthSet}
 use Rattle.mask_bits.proofs.PlaceLaws.{walk-on, resumed-there}
 use Rattle.mask_bits.proofs.BitLaws.{length-bits}
@@ -69,7 +69,7 @@ returns c =
     let test = filler-found (c .before .before .before .nth-after .result .0) (l .n .0) (c .if1 .taken) in
     let found = rw (l .inv .3) at (c .before .before .before .nth-after .ensures) in
     let slot = at-place bits first (l .j) (l .from .0) (l .n .0) _ found (l .inv .5 0) in
-    sym (place-filler clockReplaces noClock heldClockOf heldClockBytes 12 clock-long 36 (l .t) (heldClock true (p .epoch) (p .ssr)) (drop (l .j) (take (p .count) (p .clocks))) bits (first + l .j) (omega arith) (sym slot ∙ test .0))
+    sym (place-filler replaceClock (heldClock true (p .epoch) (p .ssr)) (drop (l .j) (take (p .count) (p .clocks))) (l .t) bits (first + l .j) (clock-nowhere (l .t)) (omega arith) (sym slot ∙ test .0))
     ∙ l .inv .4
     ∙ asked (a .t .now) (a .kind) p first (c1 .before .first-place .ensures) (c0 .pre)
 
@@ -115,7 +115,7 @@ loop-again c =
     let next : first + l .j + 1 ≡ first + (l .j + 1) = omega arith in
     let step =
     rw (getD-take (p .count) (p .clocks) (l .j) blankClock (near .1)) at
-    (place-step clockReplaces noClock heldClockOf heldClockBytes 12 clock-long 36 (heldClock true (p .epoch) (p .ssr)) records (l .j) blankClock (l .t) (bitsAt (a .t .now)) (first + l .j) within)
+    (place-step replaceClock (heldClock true (p .epoch) (p .ssr)) records (l .j) blankClock (l .t) (bitsAt (a .t .now)) (first + l .j) within)
     in (
       omega arith,
       l .inv .1,
@@ -145,7 +145,7 @@ returns-2 c =
     let records = take (p .count) (p .clocks) in
     let bits = bitsAt (a .t .now) in
     let end : length records ≤ l .j = ⊎-elim (λ h. omega (arith, length-take (p .count) (p .clocks))) (λ h. omega (arith, length-take (p .count) (p .clocks))) (stop (l .j) (p .count) (c .loop-test .left)) in
-    sym (place-end clockReplaces noClock heldClockOf heldClockBytes 12 clock-long 36 (heldClock true (p .epoch) (p .ssr)) records (l .j) blankClock (l .t) bits (first + l .j) end)
+    sym (place-end replaceClock (heldClock true (p .epoch) (p .ssr)) records (l .j) blankClock (l .t) bits (first + l .j) end)
     ∙ l .inv .4
     ∙ asked (a .t .now) (a .kind) p first (c .before .before .first-place .ensures) (c0 .pre)
 

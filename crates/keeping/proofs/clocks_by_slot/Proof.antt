@@ -7,8 +7,8 @@ use mathlib.Core.Path.{_≡_, sym, _∙_, refl}
 use lib.ListN.{length, drop}
 use Rattle.records.specs.Clock.{blankClock}
 use Rattle.records.specs.declared.clock.Clock.{Clock}
-use Rattle.held_clocks.specs.Clocks.{clockReplaces, noClock, heldClockOf, heldClockBytes, replaceClocks}
-use Rattle.held_clocks.proofs.ClockLaws.{clock-long}
+use Rattle.held_clocks.specs.Clocks.{replaceClock, replaceClocks}
+use Rattle.held_clocks.proofs.ClockLaws.{clock-named}
 use Rattle.places.specs.Keeps.{heldClock, bySlot, clocksOf}
 use Rattle.places.proofs.KeepLaws.{length-mapped, slot-step, slot-end}
 use Rattle.keeping.proofs.clocks_by_slot.Statement.{statement}
@@ -52,7 +52,7 @@ loop-again c =
       omega arith,
       l .inv .1,
       c .before .before .replace-clock .kept .0 ∙ l .inv .2,
-      rw put (sym (slot-step clockReplaces noClock heldClockOf heldClockBytes 12 clock-long 36 (heldClock false (p .epoch) (p .ssr)) (p .clocks) (l .j) blankClock (l .t) (λ (k : Clock). k .slot) (omega arith)) ∙ l .inv .3),
+      rw put (sym (slot-step replaceClock (heldClock false (p .epoch) (p .ssr)) (p .clocks) (l .j) blankClock (l .t) (λ (k : Clock). k .slot) (clock-named (l .t)) (omega arith)) ∙ l .inv .3),
     )
 
 same-length : tie.Need-same-length Inv-loop μ-loop
@@ -63,7 +63,7 @@ unfolding clocksOf
 returns c =
     let l = c .before .loop in
     let p = c .before .before .before .before .args .p in
-    sym (slot-end clockReplaces noClock heldClockOf heldClockBytes 12 clock-long 36 (heldClock false (p .epoch) (p .ssr)) (p .clocks) (l .j) blankClock (l .t) (λ (k : Clock). k .slot) (omega arith)) ∙ l .inv .3
+    sym (slot-end replaceClock (heldClock false (p .epoch) (p .ssr)) (p .clocks) (l .j) blankClock (l .t) (λ (k : Clock). k .slot) (omega arith)) ∙ l .inv .3
 
 pub clocks-by-slot-spec : {M : Type 1} → statement M
 clocks-by-slot-spec =

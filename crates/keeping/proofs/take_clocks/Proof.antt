@@ -1,8 +1,8 @@
 use borrow.Author.Needs.{needs}
 use mathlib.Core.Path.{sym, _∙_}
-use Rattle.held_clocks.specs.Clocks.{clockReplaces, heldClockOf, heldClockBytes}
+use Rattle.held_clocks.specs.Clocks.{replaceClock}
 use Rattle.held_mask.specs.Mask.{maskAt}
-use Rattle.places.proofs.KeepLaws.{clocks-none, replace-no}
+use Rattle.places.proofs.KeepLaws.{clocks-none, order-none}
 use Rattle.keeping.proofs.take_clocks.Statement.{statement}
 use Rattle.keeping.proofs.take_clocks.Tie as tie
 
@@ -31,7 +31,7 @@ returns-3 : tie.Need-returns-3
 returns-3 c =
     let a = c .before .before .before .before .args in
     rw (clocks-none (maskAt (a .t .now)) (a .kind) (a .p) (c .before .before .if1 .left) (sym (c .before .needs-mask .ensures) ∙ c .if2 .left))
-    (sym (replace-no clockReplaces heldClockOf heldClockBytes 12 36 (a .t .now)))
+    (sym (order-none replaceClock (a .t .now)))
 
 pub take-clocks-spec : {M : Type 1} → statement M
 take-clocks-spec =

@@ -6,7 +6,7 @@ use mathlib.Core.Path.{sym, _∙_}
 use Rattle.slots.specs.Slots.{setCount}
 use Rattle.held_mask.specs.Mask.{maskAt}
 use Rattle.mask_bits.proofs.BitLaws.{length-bits}
-use Rattle.places.proofs.KeepLaws.{place-free, place-absent, place-ssr, place-iodp, place-past, place-good, count-le, as-past, as-within}
+use Rattle.places.proofs.KeepLaws.{place-free, place-other, place-past, place-good, count-le, as-past, as-within}
 use Rattle.places.proofs.place_refusal.Statement.{statement}
 use Rattle.places.proofs.place_refusal.Tie as tie
 
@@ -18,41 +18,15 @@ returns c =
     let a = c .before .before .before .args in
     sym (place-free (maskAt (a .t .now)) (a .kind) (a .p) (sym (c .before .needs-mask .ensures) ∙ not-true _ (c .if1 .taken)))
 
-has-mask-requires : tie.Need-has-mask-requires
-has-mask-requires c κs = search needs
+is-other-mask-requires : tie.Need-is-other-mask-requires
+is-other-mask-requires c κs = search needs
 
 returns-2 : tie.Need-returns-2
 returns-2 c =
     let c1 = c .before .before in
     let a = c1 .before .before .before .args in
     let needed = sym (c1 .before .needs-mask .ensures) ∙ not-false _ (c1 .if1 .left) in
-    sym (place-absent (maskAt (a .t .now)) (a .kind) (a .p) needed (sym (c .before .has-mask .ensures) ∙ not-true _ (c .if2 .taken)))
-
-mask-ssr-requires : tie.Need-mask-ssr-requires
-mask-ssr-requires c κs = search needs
-
-returns-3 : tie.Need-returns-3
-returns-3 c =
-    let c2 = c .before .before .before in
-    let c1 = c2 .before .before in
-    let a = c1 .before .before .before .args in
-    let needed = sym (c1 .before .needs-mask .ensures) ∙ not-false _ (c1 .if1 .left) in
-    let has = sym (c2 .before .has-mask .ensures) ∙ not-false _ (c2 .if2 .left) in
-    sym (place-ssr (maskAt (a .t .now)) (a .kind) (a .p) needed has (λ e. c .if3 .taken (c .before .before .mask-ssr .ensures ∙ e)))
-
-mask-iodp-requires : tie.Need-mask-iodp-requires
-mask-iodp-requires c κs = search needs
-
-returns-4 : tie.Need-returns-4
-returns-4 c =
-    let c3 = c .before .before .before in
-    let c2 = c3 .before .before .before in
-    let c1 = c2 .before .before in
-    let a = c1 .before .before .before .args in
-    let needed = sym (c1 .before .needs-mask .ensures) ∙ not-false _ (c1 .if1 .left) in
-    let has = sym (c2 .before .has-mask .ensures) ∙ not-false _ (c2 .if2 .left) in
-    let ssr = sym (c3 .before .before .mask-ssr .ensures) ∙ c3 .if3 .left in
-    sym (place-iodp (maskAt (a .t .now)) (a .kind) (a .p) needed has ssr (λ e. c .if4 .taken (c .before .before .mask-iodp .ensures ∙ e)))
+    sym (place-other (maskAt (a .t .now)) (a .kind) (a .p) needed (sym (c .before .is-other-mask .ensures) ∙ c .if2 .taken))
 
 place-to-check-requires : tie.Need-place-to-check-requires
 place-to-check-requires c κs = search needs
@@ -63,37 +37,29 @@ is-past-last-requires c κs = search needs
 place-number-requires : tie.Need-place-number-requires
 place-number-requires c κs = search needs
 
-returns-5 : tie.Need-returns-5
-returns-5 c =
-    let c5 = c .before in
-    let c4 = c5 .before .before .before in
-    let c3 = c4 .before .before .before in
+returns-3 : tie.Need-returns-3
+returns-3 c =
+    let c3 = c .before in
     let c2 = c3 .before .before .before in
     let c1 = c2 .before .before in
     let a = c1 .before .before .before .args in
     let needed = sym (c1 .before .needs-mask .ensures) ∙ not-false _ (c1 .if1 .left) in
-    let has = sym (c2 .before .has-mask .ensures) ∙ not-false _ (c2 .if2 .left) in
-    let ssr = sym (c3 .before .before .mask-ssr .ensures) ∙ c3 .if3 .left in
-    let iodp = sym (c4 .before .before .mask-iodp .ensures) ∙ c4 .if4 .left in
-    let past = place-past (maskAt (a .t .now)) (a .kind) (a .p) needed has ssr iodp in
+    let own = sym (c2 .before .is-other-mask .ensures) ∙ c2 .if2 .left in
+    let past = place-past (maskAt (a .t .now)) (a .kind) (a .p) needed own in
     let near : setCount (maskAt (a .t .now) .bits) ≤ 255 = omega (arith, count-le (maskAt (a .t .now) .bits), length-bits (a .t .now)) in
-    let test = rw (c5 .before .before .place-to-check .ensures) at (sym (c5 .before .is-past-last .ensures) ∙ c5 .if5 .taken) in
+    let test = rw (c3 .before .before .place-to-check .ensures) at (sym (c3 .before .is-past-last .ensures) ∙ c3 .if3 .taken) in
     c .place-number .ensures ∙ sym (past (as-past _ _ near (ltb-true _ _ test)))
 
-returns-6 : tie.Need-returns-6
-returns-6 c =
-    let c4 = c .before .before .before in
-    let c3 = c4 .before .before .before in
-    let c2 = c3 .before .before .before in
+returns-4 : tie.Need-returns-4
+returns-4 c =
+    let c2 = c .before .before .before in
     let c1 = c2 .before .before in
     let a = c1 .before .before .before .args in
     let needed = sym (c1 .before .needs-mask .ensures) ∙ not-false _ (c1 .if1 .left) in
-    let has = sym (c2 .before .has-mask .ensures) ∙ not-false _ (c2 .if2 .left) in
-    let ssr = sym (c3 .before .before .mask-ssr .ensures) ∙ c3 .if3 .left in
-    let iodp = sym (c4 .before .before .mask-iodp .ensures) ∙ c4 .if4 .left in
+    let own = sym (c2 .before .is-other-mask .ensures) ∙ c2 .if2 .left in
     let near : setCount (maskAt (a .t .now) .bits) ≤ 255 = omega (arith, count-le (maskAt (a .t .now) .bits), length-bits (a .t .now)) in
-    let good = place-good (maskAt (a .t .now)) (a .kind) (a .p) needed has ssr iodp in
-    let test = rw (c .before .before .place-to-check .ensures) at (sym (c .before .is-past-last .ensures) ∙ c .if5 .left) in
+    let good = place-good (maskAt (a .t .now)) (a .kind) (a .p) needed own in
+    let test = rw (c .before .before .place-to-check .ensures) at (sym (c .before .is-past-last .ensures) ∙ c .if3 .left) in
     sym (good (as-within _ _ near (ltb-false _ _ test)))
 
 pub place-refusal-spec : {M : Type 1} → statement M
@@ -102,14 +68,10 @@ place-refusal-spec =
     (tie.spec
     needs-mask-requires
     returns
-    has-mask-requires
+    is-other-mask-requires
     returns-2
-    mask-ssr-requires
-    returns-3
-    mask-iodp-requires
-    returns-4
     place-to-check-requires
     is-past-last-requires
     place-number-requires
-    returns-5
-    returns-6)
+    returns-3
+    returns-4)

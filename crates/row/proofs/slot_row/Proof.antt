@@ -37,8 +37,8 @@ returns-3 c =
       sym (c .before .has-bit .ensures) ∙ not-true _ (c .if3 .taken),
     )
 
-get-orbit-requires : tie.Need-get-orbit-requires
-get-orbit-requires c κs = search needs
+coded-orbit-requires : tie.Need-coded-orbit-requires
+coded-orbit-requires c κs = search needs
 
 get-clock-requires : tie.Need-get-clock-requires
 get-clock-requires c κs = search needs
@@ -59,7 +59,7 @@ returns-4 c =
       sym (o .before .before .before .before .before .before .is-assigned .ensures) ∙ not-false _ (o .before .before .before .before .before .if1 .left),
       sym (o .before .before .before .before .has-mask .ensures) ∙ not-false _ (o .before .before .before .if2 .left),
       sym (o .before .before .has-bit .ensures) ∙ not-false _ (o .before .if3 .left),
-      sym (rw (d .before .mask-ssr .ensures, k .get-clock .ensures, o .get-orbit .ensures) at (d .do-agree .ensures)) ∙ not-true _ (c .if4 .taken),
+      sym (rw (d .before .mask-ssr .ensures, k .get-clock .ensures, o .coded-orbit .ensures) at (d .do-agree .ensures)) ∙ not-true _ (c .if4 .taken),
     )
 
 is-usable-requires : tie.Need-is-usable-requires
@@ -75,8 +75,8 @@ returns-5 c =
       sym (o .before .before .before .before .before .before .is-assigned .ensures) ∙ not-false _ (o .before .before .before .before .before .if1 .left),
       sym (o .before .before .before .before .has-mask .ensures) ∙ not-false _ (o .before .before .before .if2 .left),
       sym (o .before .before .has-bit .ensures) ∙ not-false _ (o .before .if3 .left),
-      sym (rw (d .before .mask-ssr .ensures, k .get-clock .ensures, o .get-orbit .ensures) at (d .do-agree .ensures)) ∙ not-false _ (c .before .before .if4 .left),
-      sym (rw (k .get-clock .ensures, o .get-orbit .ensures) at (c .before .is-usable .ensures)) ∙ not-true _ (c .if5 .taken),
+      sym (rw (d .before .mask-ssr .ensures, k .get-clock .ensures, o .coded-orbit .ensures) at (d .do-agree .ensures)) ∙ not-false _ (c .before .before .if4 .left),
+      sym (rw (k .get-clock .ensures, o .coded-orbit .ensures) at (c .before .is-usable .ensures)) ∙ not-true _ (c .if5 .taken),
     )
 
 row-from-requires : tie.Need-row-from-requires
@@ -92,9 +92,9 @@ returns-6 c =
       sym (o .before .before .before .before .before .before .is-assigned .ensures) ∙ not-false _ (o .before .before .before .before .before .if1 .left),
       sym (o .before .before .before .before .has-mask .ensures) ∙ not-false _ (o .before .before .before .if2 .left),
       sym (o .before .before .has-bit .ensures) ∙ not-false _ (o .before .if3 .left),
-      sym (rw (d .before .mask-ssr .ensures, k .get-clock .ensures, o .get-orbit .ensures) at (d .do-agree .ensures)) ∙ not-false _ (c .before .before .before .if4 .left),
-      sym (rw (k .get-clock .ensures, o .get-orbit .ensures) at (c .before .before .is-usable .ensures)) ∙ not-false _ (c .before .if5 .left),
-    ) (ap (λ (r : Row). rowSays (Found r)) (rw (k .get-clock .ensures, o .get-orbit .ensures) at (c .row-from .ensures)))
+      sym (rw (d .before .mask-ssr .ensures, k .get-clock .ensures, o .coded-orbit .ensures) at (d .do-agree .ensures)) ∙ not-false _ (c .before .before .before .if4 .left),
+      sym (rw (k .get-clock .ensures, o .coded-orbit .ensures) at (c .before .before .is-usable .ensures)) ∙ not-false _ (c .before .if5 .left),
+    ) (ap (λ (r : Row). rowSays (Found r)) (rw (k .get-clock .ensures, o .coded-orbit .ensures) at (c .row-from .ensures)))
 
 pub slot-row-spec : {M : Type 1} → statement M
 slot-row-spec =
@@ -106,7 +106,7 @@ slot-row-spec =
     returns-2
     has-bit-requires
     returns-3
-    get-orbit-requires
+    coded-orbit-requires
     get-clock-requires
     mask-ssr-requires
     do-agree-requires

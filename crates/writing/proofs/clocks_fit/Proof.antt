@@ -5,8 +5,10 @@ use mathlib.Core.Path.{_≡_, sym, _∙_}
 use mathlib.Core.Bool.{true}
 use borrow.Author.Tests.{not-true, not-false}
 use Rattle.records.specs.Clock.{clockWidths}
-use Rattle.writing.specs.Fits.{eight, clockRow, allFit}
-use Rattle.writing.proofs.FitLaws.{all-none, all-more, all-miss, clock-eight}
+use Rattle.fitting.specs.Fits.{eight, allFit}
+use Rattle.writing.specs.Fits.{clockRow}
+use Rattle.fitting.proofs.FitLaws.{all-none, all-more, all-miss}
+use Rattle.writing.proofs.FitLaws.{clock-eight}
 use Rattle.writing.proofs.clocks_fit.Statement.{statement}
 use Rattle.writing.proofs.clocks_fit.Tie as tie
 

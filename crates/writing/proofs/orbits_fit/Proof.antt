@@ -5,8 +5,9 @@ use mathlib.Core.Path.{_≡_, sym, _∙_}
 use mathlib.Core.Bool.{true}
 use borrow.Author.Tests.{not-true, not-false}
 use Rattle.records.specs.Orbit.{orbitWidths}
-use Rattle.writing.specs.Fits.{orbitRow, allFit}
-use Rattle.writing.proofs.FitLaws.{all-none, all-more, all-miss}
+use Rattle.fitting.specs.Fits.{allFit}
+use Rattle.writing.specs.Fits.{orbitRow}
+use Rattle.fitting.proofs.FitLaws.{all-none, all-more, all-miss}
 use Rattle.writing.proofs.orbits_fit.Statement.{statement}
 use Rattle.writing.proofs.orbits_fit.Tie as tie
 

@@ -9,7 +9,8 @@ use Rattle.bits.specs.Bits.{putRows}
 use Rattle.bits.proofs.RowLaws.{rows-step, rows-none}
 use Rattle.records.specs.Clock.{blankClock, clockWidths}
 use Rattle.layout.proofs.LayoutLaws.{width-near}
-use Rattle.writing.specs.Fits.{eight, clockRow}
+use Rattle.fitting.specs.Fits.{eight}
+use Rattle.writing.specs.Fits.{clockRow}
 use Rattle.writing.proofs.RoomLaws.{clock-put}
 use Rattle.writing.proofs.put_clock_rows.Statement.{statement}
 use Rattle.writing.proofs.put_clock_rows.Tie as tie

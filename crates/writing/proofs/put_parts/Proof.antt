@@ -15,17 +15,25 @@ put-clocks-requires c κs = search needs
 put-orbits-requires : tie.Need-put-orbits-requires
 put-orbits-requires c κs = search needs
 
+put-bias-part-requires : tie.Need-put-bias-part-requires
+put-bias-part-requires c κs = search needs
+
+put-code-part-requires : tie.Need-put-code-part-requires
+put-code-part-requires c κs = search needs
+
 same-length : tie.Need-same-length
 same-length c = search needs
 
 returns : tie.Need-returns
 unfolding partsPut
 returns c =
-    let o = c .before .before in
+    let u = c .before .before in
+    let b = u .before .before .before .before in
+    let o = b .before .before .before .before in
     let k = o .before .before .before .before in
     let m = k .before .before .before .before in
     let h = m .before .before .before .before in
-    rw (← (h .put-head .ensures), ← (m .put-mask .ensures), ← (k .put-clocks .ensures)) (o .put-orbits .ensures)
+    rw (← (h .put-head .ensures), ← (m .put-mask .ensures), ← (k .put-clocks .ensures), ← (o .put-orbits .ensures), ← (b .put-bias-part .ensures)) (u .put-code-part .ensures)
 
 pub put-parts-spec : {M : Type 1} → statement M
 put-parts-spec =
@@ -35,5 +43,7 @@ put-parts-spec =
     put-mask-requires
     put-clocks-requires
     put-orbits-requires
+    put-bias-part-requires
+    put-code-part-requires
     same-length
     returns)

@@ -4,6 +4,7 @@ use Prim.Native.Nat.{ℕ}
 use mathlib.Core.Path.{_≡_, sym, ap, _∙_}
 use mathlib.Core.List.{List}
 use lib.ListN.{length}
+use Rattle.held_mask.specs.Size.{size}
 use Rattle.in_force.specs.Bytes.{runBytes, framesOf}
 use Rattle.in_force.proofs.ReplayLaws.{replayed-not, replayed-all}
 use Rattle.ledger.proofs.replay.replay.Statement.{statement}
@@ -28,7 +29,7 @@ returns-2 : tie.Need-returns-2
 returns-2 c =
     let a = c .before .before .before .before .before .before .before .args in
     let yes = sym (c .before .before .before .before .before .is-prn .ensures) ∙ not-false _ (c .before .before .before .before .if1 .left) in
-    let long : length (a .ledger .now) ≡ 9216 = let g = c .before .before .before .before .before .before .before .good in search needs in
+    let long : length (a .ledger .now) ≡ size = let g = c .before .before .before .before .before .before .before .good in search needs in
     let ran = c .take-log .ensures ∙ ap (λ (s : List ℕ). runBytes s (framesOf (a .log .now))) (c .before .before .make-fresh .ensures) in
     (rw yes, replayed-all (a .ledger .now) (a .prn) (a .log .now) yes long _ ran)
 

@@ -27,38 +27,20 @@ returns c =
     let shell = at .shell-for .ensures ∙ ap (λ (p : ℕ). shellFor p f) (at .before .ledger-prn .ensures) in
     way-shut s f _ shell (λ z. c .if1 .taken (c .before .number-of .ensures ∙ z))
 
-kind-of-requires : tie.Need-kind-of-requires
-kind-of-requires c κs = search needs
-
-take-type-1-requires : tie.Need-take-type-1-requires
-take-type-1-requires c κs =
-    let at = c .before .before .before .before .before in
+take-message-requires : tie.Need-take-message-requires
+take-message-requires c κs =
+    let at = c .before .before .before in
     let start = at .before .before .before .before .before in
     let s = start .args .t .now in
     let f = start .args .frame .now in
     let shell = at .shell-for .ensures ∙ ap (λ (p : ℕ). shellFor p f) (at .before .ledger-prn .ensures) in
-    (way-open s f _ shell (sym (c .before .before .before .before .number-of .ensures) ∙ c .before .before .before .if1 .left), sym (c .before .before .kind-of .ensures) ∙ c .before .if2 .taken)
+    way-open s f _ shell (sym (c .before .before .number-of .ensures) ∙ c .before .if1 .left)
 
 same-length-2 : tie.Need-same-length-2
 same-length-2 c = search needs
 
 returns-2 : tie.Need-returns-2
 returns-2 c = search needs
-
-take-parts-requires : tie.Need-take-parts-requires
-take-parts-requires c κs =
-    let at = c .before .before .before .before .before in
-    let start = at .before .before .before .before .before in
-    let s = start .args .t .now in
-    let f = start .args .frame .now in
-    let shell = at .shell-for .ensures ∙ ap (λ (p : ℕ). shellFor p f) (at .before .ledger-prn .ensures) in
-    (way-open s f _ shell (sym (c .before .before .before .before .number-of .ensures) ∙ c .before .before .before .if1 .left), λ z. c .before .if2 .left (c .before .before .kind-of .ensures ∙ z))
-
-same-length-3 : tie.Need-same-length-3
-same-length-3 c = search needs
-
-returns-3 : tie.Need-returns-3
-returns-3 c = search needs
 
 pub take-in-spec : {M : Type 1} → statement M
 take-in-spec =
@@ -69,10 +51,6 @@ take-in-spec =
     number-of-requires
     same-length
     returns
-    kind-of-requires
-    take-type-1-requires
+    take-message-requires
     same-length-2
-    returns-2
-    take-parts-requires
-    same-length-3
-    returns-3)
+    returns-2)

@@ -1,9 +1,12 @@
 use borrow.Author.Needs.{needs}
-use mathlib.Core.Path.{sym, _∙_}
-use Rattle.contents.proofs.PartLaws.{mask-absent}
-use Rattle.judge.proofs.JudgeLaws.{parts-refusal}
+use mathlib.Core.Path.{sym, ap, _∙_}
+use Rattle.judge.proofs.JudgeLaws.{parts-refusal-at}
 use Rattle.frame.specs.Frame.{contentsOf}
+use Rattle.held_mask.specs.Mask.{maskAt}
+use Rattle.places.specs.Keeps.{placeSays}
+use Rattle.places.proofs.KeepLaws.{refusal-other}
 use Rattle.in_force.proofs.RefusalLaws.{way-judged, way-refused, way-taken}
+use Rattle.in_force.proofs.ViewLaws.{taken-parts}
 use Rattle.ledger.proofs.take.take_parts.Statement.{statement}
 use Rattle.ledger.proofs.take.take_parts.Tie as tie
 
@@ -28,7 +31,7 @@ returns c =
     let start = at .before .before .before .before .before .before in
     let s = start .args .t .now in
     let f = start .args .frame .now in
-    let judged = (rw (kind, clock, orbit) at (at .refusal-of-parts .ensures)) ∙ parts-refusal (contentsOf f) (mask-absent f 28 (start .pre .1)) in
+    let judged = (rw (kind, clock, orbit) at (at .refusal-of-parts .ensures)) ∙ parts-refusal-at f 28 (start .pre .1) (start .pre .2) (start .pre .3) in
     way-judged s f (start .pre .0) _ judged (c .if1 .taken)
 
 place-verdict-requires : tie.Need-place-verdict-requires
@@ -49,9 +52,9 @@ returns-2 c =
     let start = at .before .before .before .before .before .before in
     let s = start .args .t .now in
     let f = start .args .frame .now in
-    let judged = (rw (kind, clock, orbit) at (at .refusal-of-parts .ensures)) ∙ parts-refusal (contentsOf f) (mask-absent f 28 (start .pre .1)) in
+    let judged = (rw (kind, clock, orbit) at (at .refusal-of-parts .ensures)) ∙ parts-refusal-at f 28 (start .pre .1) (start .pre .2) (start .pre .3) in
     let placed = c .before .before .place-verdict in
-    let said = rw (kind, clock) at (placed .ensures) in
+    let said = (rw (kind, clock) at (placed .ensures)) ∙ ap (placeSays (maskAt s)) (sym (refusal-other (maskAt s) (contentsOf f) (start .pre .3))) in
     way-refused s f (start .pre .0) _ judged (c .before .before .before .before .if1 .left) _ said (λ z. c .if2 .taken (c .before .number-of .ensures ∙ z))
 
 take-clocks-requires : tie.Need-take-clocks-requires
@@ -72,13 +75,13 @@ returns-3 c =
     let start = at .before .before .before .before .before .before in
     let s = start .args .t .now in
     let f = start .args .frame .now in
-    let judged = (rw (kind, clock, orbit) at (at .refusal-of-parts .ensures)) ∙ parts-refusal (contentsOf f) (mask-absent f 28 (start .pre .1)) in
+    let judged = (rw (kind, clock, orbit) at (at .refusal-of-parts .ensures)) ∙ parts-refusal-at f 28 (start .pre .1) (start .pre .2) (start .pre .3) in
     let placed = c .before .before .before .before .before .before .before .before .before .before .place-verdict in
-    let said = rw (kind, clock) at (placed .ensures) in
+    let said = (rw (kind, clock) at (placed .ensures)) ∙ ap (placeSays (maskAt s)) (sym (refusal-other (maskAt s) (contentsOf f) (start .pre .3))) in
     let free = sym (c .before .before .before .before .before .before .before .before .before .number-of .ensures) ∙ c .before .before .before .before .before .before .before .before .if2 .left in
     let clocks = rw (kind, clock) at (c .before .before .before .before .before .before .take-clocks .ensures) in
     let orbits = rw (kind, orbit, clocks) at (c .before .before .take-orbits .ensures) in
-    way-taken s f (start .pre .0) _ judged (c .before .before .before .before .before .before .before .before .before .before .before .before .if1 .left) _ said free (start .pre .1) _ orbits
+    way-taken s f (start .pre .0) _ judged (c .before .before .before .before .before .before .before .before .before .before .before .before .if1 .left) _ said free _ (orbits ∙ sym (taken-parts s (contentsOf f) (start .pre .1) (start .pre .3)))
 
 pub take-parts-spec : {M : Type 1} → statement M
 take-parts-spec =

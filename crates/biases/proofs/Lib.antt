@@ -1,0 +1,3 @@
+pub mod FilledLaws
+pub mod PlaceLaws
+pub mod RowLaws

@@ -1,0 +1,2 @@
+pub mod Biases
+pub mod Codes
