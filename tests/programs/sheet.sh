@@ -69,6 +69,9 @@ answers() {
     verdict "$name" "$why"
 }
 
+# The sample: its bytes, its rows, and where its end stands.
+size=$(($(wc -c <$sheet))) count=$((($(wc -c <$sheet) - 11) / 24)) end=$(($(wc -c <$sheet) - 3))
+
 # number N: two bytes, high byte first. at OFFSET HEX: the sample with one byte changed.
 number() { printf "\\x$(printf %02x $(($1 / 256)))\\x$(printf %02x $(($1 % 256)))"; }
 at() { head -c "$1" $sheet && printf "\\x$2" && tail -c +$(($1 + 2)) $sheet; }
@@ -81,26 +84,26 @@ rows() {
     printf '\377\0\0'
 }
 answers 'refused 23 at 0' "sheet read, an empty file" read "$folder/empty"
-for bytes in 7 8 31 32 1000 1087 1088 1090; do
+for bytes in 7 8 31 32 1000 $((end - 1)) $end $((size - 1)); do
     head -c $bytes $sheet >"$folder/sheet"
-    answers "refused 23 at $((bytes < 8 ? 0 : bytes >= 1088 ? 1088 : 8 + (bytes - 8) / 24 * 24))" \
+    answers "refused 23 at $((bytes < 8 ? 0 : bytes >= end ? end : 8 + (bytes - 8) / 24 * 24))" \
         "sheet read, cut after $bytes bytes" read "$folder/sheet"
 done
 { cat $sheet && printf x; } >"$folder/sheet"
-answers 'refused 23 at 1091' "sheet read, a byte behind it" read "$folder/sheet"
+answers "refused 23 at $size" "sheet read, a byte behind it" read "$folder/sheet"
 { cat $sheet && head -c 100000 /dev/zero; } >"$folder/sheet"
-answers 'refused 23 at 1091' "sheet read, much behind it" read "$folder/sheet"
+answers "refused 23 at $size" "sheet read, much behind it" read "$folder/sheet"
 answers 'refused 23 at 0' "sheet read, a log" read $log
 at 3 06 >"$folder/sheet"
 answers 'refused 23 at 0' "sheet read, PRN 6" read "$folder/sheet"
-at 7 2c >"$folder/sheet"
-answers 'refused 23 at 1064' "sheet read, a row too many" read "$folder/sheet"
-at 7 2e >"$folder/sheet"
-answers 'refused 23 at 1088' "sheet read, a row too few" read "$folder/sheet"
+at 7 $(printf %02x $((count - 1))) >"$folder/sheet"
+answers "refused 23 at $((end - 24))" "sheet read, a row too many" read "$folder/sheet"
+at 7 $(printf %02x $((count + 1))) >"$folder/sheet"
+answers "refused 23 at $end" "sheet read, a row too few" read "$folder/sheet"
 rows 1 3 2 >"$folder/sheet"
 answers 'refused 23 at 56' "sheet read, slots that do not rise" read "$folder/sheet"
 why=
-for ((i = 0; i < 1091; i += 37)); do
+for ((i = 0; i < size; i += 37)); do
     at $i ff >"$folder/sheet"
     reference sheet read "$folder/sheet"
     bare sheet read "$folder/sheet" 2>&1 | cmp -s - "$folder/wanted" || why="$why $i;"
@@ -111,11 +114,11 @@ verdict "sheet read, one byte FF" "$why"
 answers 'accepted left-out 0' "sheet check, the sample" check $sheet "${night[@]}"
 cp "$folder/out" "$folder/line"
 prints "$folder/line" "sheet check, the sheet on standard input" sheet check - "${night[@]}" <$sheet
-rows $(seq 1 42) >"$folder/sheet"
+rows $(seq 1 $((count - 3))) >"$folder/sheet"
 answers 'accepted left-out 3' "sheet check, three rows left out" check "$folder/sheet" "${night[@]}"
 rows >"$folder/sheet"
-answers 'accepted left-out 45' "sheet check, no rows" check "$folder/sheet" "${night[@]}"
-rows $(seq 45 -1 1) >"$folder/sheet"
+answers "accepted left-out $count" "sheet check, no rows" check "$folder/sheet" "${night[@]}"
+rows $(seq $count -1 1) >"$folder/sheet"
 answers 'accepted left-out 0' "sheet check, rows in falling order" check "$folder/sheet" "${night[@]}"
 answers 'refused 23 at 32' "sheet read, rows in falling order" read "$folder/sheet"
 rows 7 3 3 >"$folder/sheet"
@@ -126,8 +129,8 @@ at 11 01 >"$folder/sheet"
 answers 'refused 24 row 1' "sheet check, a slot that has no row" check "$folder/sheet" "${night[@]}"
 at 3 3b >"$folder/sheet"
 answers 'refused 27' "sheet check, PRN 59" check "$folder/sheet" "${night[@]}"
-at 1088 00 >"$folder/sheet"
-answers 'refused 23 at 1088' "sheet check, no end" check "$folder/sheet" "${night[@]}"
+at $end 00 >"$folder/sheet"
+answers "refused 23 at $end" "sheet check, no end" check "$folder/sheet" "${night[@]}"
 answers 'refused 27' "sheet check, another night" check $sheet "${whole[@]}"
 answers 'refused 20' "sheet check, no mask" check $sheet 60 $issues "$folder/empty"
 answers 'refused 24 row 1' "sheet check, no issues" check $sheet 60 "$folder/empty" $log
