@@ -1,3 +1,3 @@
-// Contents of messages: the parts, and reading them at any bit offset.
+// Contents of messages: the parts, and the head by which they are read.
 pub mod parts;
 pub mod read;

@@ -3,9 +3,9 @@ ghost use mathlib.Core.Path.{_≡_};
 ghost use Rattle.message.specs.Read.{readingSays, answer, readAt, readMessage};
 use contents::parts::Contents;
 use contents::parts::no_contents;
-use contents::read::contents_at;
-use contents::read::end_at;
 use judge::refusal_of;
+use reading::contents_at;
+use reading::end_at;
 use verdict::Verdict;
 
 // The verdict with the contents beside it, which are all zero where it is a refusal.
