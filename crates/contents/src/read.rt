@@ -5,14 +5,14 @@ ghost use Rattle.contents.specs.Parts.{layoutAt, contentsAt};
 use layout::Layout;
 use layout::layout_of;
 
-// What the message that begins at bit at carries and how wide.
+// What the message that begins at bit at carries and how wide. The type and the counts are read as one field.
 pub fn layout_at(s: &[u8], at: u8) -> Layout
     ensures { λ r. ⌜ r ≡ layoutAt (now (s .entry)) at ⌝ }
 {
-    let a = at as usize;
-    let kind = bits::get8(s, a, 6);
-    let numc = bits::get8(s, a + 6, 5);
-    let numo = bits::get8(s, a + 6 + 5, 3);
+    let head = bits::get16(s, at as usize, 14);
+    let kind = (head / 256) as u8;
+    let numc = (head / 8 % 32) as u8;
+    let numo = (head % 8) as u8;
     layout_of(kind, numc, numo)
 }
 

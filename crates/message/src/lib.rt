@@ -3,7 +3,7 @@ ghost use mathlib.Core.Path.{_≡_};
 ghost use Rattle.message.specs.Read.{readingSays, answer, readAt, readMessage};
 use contents::parts::Contents;
 use contents::parts::no_contents;
-use judge::refusal_of;
+use judging::refusal_of;
 use reading::contents_at;
 use reading::end_at;
 use verdict::Verdict;

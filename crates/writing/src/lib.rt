@@ -172,7 +172,7 @@ fn end_for(c: Contents) -> u32
 fn content_refusal(c: Contents) -> u8
     ensures { λ r. ⌜ r ≡ contentRefusal c ⌝ }
 {
-    let n = judge::refusal_of(end_for(c), c);
+    let n = judging::refusal_of(end_for(c), c);
     if n != 0 {
         return n;
     }
