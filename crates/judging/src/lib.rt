@@ -83,7 +83,13 @@ pub fn refusal_of(end: u32, c: Contents) -> u8
     let os = orbit_faults(orbits);
     let bs = sat_faults(sats);
     let high = ks.high | os.high | bad_start(c.kind, k.count, k.start) | bs.high;
-    refusal_by(c.kind, end, any_late(c), high, ks.again | os.again | bs.again)
+    refusal_by(
+        c.kind,
+        end,
+        any_late(c),
+        high,
+        ks.again | os.again | bs.again,
+    )
 }
 
 // The same of a type 1 by its mask alone.

@@ -81,7 +81,7 @@ fn place_refusal(t: &[u8], kind: u8, p: ClockPart) -> u8
     if is_other_mask(t, p.ssr, p.iodp) {
         return 14;
     }
-    if mask_bits::is_past_last(t, place_to_check(kind, p)) {
+    if mask_counts::is_past_last(t, place_to_check(kind, p)) {
         return place_number(kind);
     }
     0
@@ -93,7 +93,7 @@ pub fn place_verdict(t: &[u8], kind: u8, p: ClockPart) -> Verdict
 {
     let n = place_refusal(t, kind, p);
     if n == 19 {
-        return Verdict::Places(mask_bits::set_count(t));
+        return Verdict::Places(mask_counts::set_count(t));
     }
     verdict_of(n)
 }
@@ -112,7 +112,7 @@ pub fn code_refusal(t: &[u8], u: CodePart) -> u8
     if is_other_mask(t, u.ssr, u.iodp) {
         return 14;
     }
-    if mask_bits::is_past_last(t, first_code(u)) {
+    if mask_counts::is_past_last(t, first_code(u)) {
         return 15;
     }
     0

@@ -168,7 +168,10 @@ pub fn clock_faults(ks: [Clock; 23]) -> SlotFaults
     ensures again { λ r. ⌜ r .again ≡ anyOf isAgain (clockSlots ks) ⌝ }
 {
     if !any_clock(ks) {
-        return SlotFaults { high: false, again: false };
+        return SlotFaults {
+            high: false,
+            again: false,
+        };
     }
     let a = clock_slots(ks);
     faults_in(&a)
@@ -180,7 +183,10 @@ pub fn orbit_faults(os: [Orbit; 6]) -> SlotFaults
     ensures again { λ r. ⌜ r .again ≡ anyOf isAgain (orbitSlots os) ⌝ }
 {
     if !any_orbit(os) {
-        return SlotFaults { high: false, again: false };
+        return SlotFaults {
+            high: false,
+            again: false,
+        };
     }
     let a = orbit_slots(os);
     faults_in(&a)
@@ -192,7 +198,10 @@ pub fn sat_faults(bs: [BiasSat; 31]) -> SlotFaults
     ensures again { λ r. ⌜ r .again ≡ anyOf isAgain (satSlots bs) ⌝ }
 {
     if !any_sat(bs) {
-        return SlotFaults { high: false, again: false };
+        return SlotFaults {
+            high: false,
+            again: false,
+        };
     }
     let a = sat_slots(bs);
     faults_in(&a)
