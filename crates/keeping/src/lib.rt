@@ -47,7 +47,10 @@ pub fn take_orbits(t: &mut [u8], kind: u8, p: OrbitPart)
 
 // If another mask is held than this one, clocks that came by place go, and so do all codes.
 fn drop_for(t: &mut [u8], m: MaskPart)
-    ensures { λ r. ⌜ now (t .exit) ≡ pick (sameMask (maskAt (now (t .entry))) (heldMask m)) (now (t .entry)) (clearedCodes (droppedClocks (now (t .entry)) 255)) ⌝ }
+    ensures { λ r. ⌜
+        now (t .exit)
+        ≡ pick (sameMask (maskAt (now (t .entry))) (heldMask m)) (now (t .entry)) (clearedCodes (droppedClocks (now (t .entry)) 255))
+        ⌝ }
 {
     if !held_mask::same_mask(t, m) {
         held_clocks::drop_placed(t);

@@ -82,7 +82,12 @@ fn take_type_5(t: &mut [u8], frame: &[u8]) -> Verdict
 
 // A message of another type in a good frame is taken, or refused.
 fn take_parts(t: &mut [u8], frame: &[u8]) -> Verdict
-    requires { ⌜ (shellRefusal (foreignTo (prnAt (now t)) (now frame)) (now frame) ≡ 0) × (contentsOf (now frame) .kind ≢ 1) × (contentsOf (now frame) .kind ≢ 3) × (contentsOf (now frame) .kind ≢ 5) ⌝ }
+    requires { ⌜
+        (shellRefusal (foreignTo (prnAt (now t)) (now frame)) (now frame) ≡ 0)
+        × (contentsOf (now frame) .kind ≢ 1)
+        × (contentsOf (now frame) .kind ≢ 3)
+        × (contentsOf (now frame) .kind ≢ 5)
+        ⌝ }
     ensures verdict { λ r. ⌜ says r ≡ takeSays (now (t .entry)) (now (frame .entry)) ⌝ }
     ensures bytes { λ r. ⌜ now (t .exit) ≡ takeBytes (now (t .entry)) (now (frame .entry)) ⌝ }
 {

@@ -26,12 +26,12 @@ unfoldable pub putHeld : {A : Type 0} → (A → List ℕ) → ℕ → List ℕ 
 putHeld bytes w s st slot h = pick (eqb slot 0) s (pick (ltb slot 256) (storeAt s (offset w st slot) (bytes h)) s)
 
 -- the bytes of a slot's record are all there
-abbrev pub hasRoom : ℕ → List ℕ → ℕ → ℕ → Bool
-hasRoom w s st slot = not (ltb (length s) (offset w st slot + w))
+abbrev pub allThere : ℕ → List ℕ → ℕ → ℕ → Bool
+allThere w s st slot = not (ltb (length s) (offset w st slot + w))
 
 -- 02, CR 3: a record replaces the one that is held for a slot now
 abbrev pub comesIn : {A : Type 0} → (A → A → Bool) → (List ℕ → A) → ℕ → List ℕ → ℕ → ℕ → A → Bool
-comesIn replaces of w s st slot h = hasRoom w s st slot && replaces (heldAt of w s st slot) h
+comesIn replaces of w s st slot h = allThere w s st slot && replaces (heldAt of w s st slot) h
 
 -- 02, CR 3: the bytes with one record put where it replaces the one held there now
 unfoldable pub replaceHeld : {A : Type 0} → (A → A → Bool) → (List ℕ → A) → (A → List ℕ) → ℕ → List ℕ → ℕ → ℕ → A → List ℕ

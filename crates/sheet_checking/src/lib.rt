@@ -105,7 +105,11 @@ fn offending(why: u8, k: u16) -> Checked
 // The rows of a sheet are held against our list, which has so many rows.
 fn check_rows(ledger: &[u8], issues: &[u16], sheet: &[u8], rows: u16, ours: u16) -> Checked
     requires { ⌜ (rows ≡ twoAt (now sheet) 6) × (ours ≡ length (listIn (now ledger) (now issues))) ⌝ }
-    ensures { λ r. ⌜ checkedSays r ≡ rowsSay (now (ledger .entry)) (now (issues .entry)) (rowsSaid (now (sheet .entry))) (offence (now (ledger .entry)) (now (issues .entry)) (rowsSaid (now (sheet .entry)))) ⌝ }
+    ensures { λ r. ⌜
+        checkedSays r
+        ≡ rowsSay (now (ledger .entry)) (now (issues .entry)) (rowsSaid (now (sheet .entry)))
+        (offence (now (ledger .entry)) (now (issues .entry)) (rowsSaid (now (sheet .entry))))
+        ⌝ }
 {
     let mut seen = [false; 256];
     let mut left = rows;
