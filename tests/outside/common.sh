@@ -35,16 +35,18 @@ else
 fi
 link="-static"
 
-# build_standin FOLDER OUT [SOURCES]: the stand-in as one object that shows
+# build_standin FOLDER OUT [SOURCES [NAMES]]: the stand-in as one object that shows
 # nothing but the boundary, so that it can be linked beside the independent
-# implementation. SOURCES is where ref.c, words.c, cnav1.c, sheet.c, forms.c, table.c and standin.c are taken from.
+# implementation. SOURCES is where ref.c, words.c, cnav1.c, sheet.c, forms.c, table.c and standin.c are taken from;
+# with NAMES only these are compiled, and the other objects are in FOLDER already.
+standin_names='ref words cnav1 sheet forms table standin'
 build_standin() {
-    local folder=$1 out=$2 sources=${3:-$outside} name
+    local folder=$1 out=$2 sources=${3:-$outside} names=${4:-$standin_names} name
     local objects=() keep=()
-    for name in ref words cnav1 sheet forms table standin; do
+    for name in $names; do
         $cc "${flags[@]}" -c -o "$folder/standin-$name.o" "$sources/$name.c" || return
-        objects+=("$folder/standin-$name.o")
     done
+    for name in $standin_names; do objects+=("$folder/standin-$name.o"); done
     for name in $boundary; do keep+=(-G "$name"); done
     $cc -nostdlib -r -o "$out" "${objects[@]}" && $objcopy "${keep[@]}" "$out"
 }
