@@ -10,12 +10,15 @@ ghost use Rattle.pieces.specs.Pieces.{pieceLength};
 ghost use Rattle.in_force.specs.Bytes.{runBytes, framesOf};
 ghost use Rattle.row.specs.Row.{rowSays};
 ghost use Rattle.list.specs.Rows.{foundCount, listIn};
-ghost use Rattle.boundary.specs.Size.{contentsSize, rowSize};
-ghost use Rattle.boundary.specs.Detail.{detailIn};
-ghost use Rattle.boundary.specs.D1.{d1ReadAnswer, d1ReadRoom, d1WriteAnswer, d1WriteRoom};
-ghost use Rattle.boundary.specs.Cnav1.{cnav1Answer, cnav1Room, joinAnswer, joinRoom};
-ghost use Rattle.boundary.specs.Make.{makeAnswer, checkAnswer};
-ghost use Rattle.boundary.specs.Boundary.{openAnswer, openRoom, takeAnswer, takeRoom, verdictsOf, replayRefusal, replayAnswer, replayLedger, replayVerdicts, answerBytes, rowsBytes, rowsAnswer, rowsRoom, rowAnswer, rowRoom, readingRoom, readAnswer, readRoom, frameAnswer, frameRoom, writeAnswer, writeRoom};
+ghost use Rattle.answers.specs.Size.{contentsSize, rowSize};
+ghost use Rattle.answers.specs.Detail.{detailIn};
+ghost use Rattle.signal_calls.specs.D1.{d1ReadAnswer, d1ReadRoom, d1WriteAnswer, d1WriteRoom};
+ghost use Rattle.signal_calls.specs.Cnav1.{cnav1Answer, cnav1Room, joinAnswer, joinRoom};
+ghost use Rattle.message_calls.specs.Make.{makeAnswer, checkAnswer};
+ghost use Rattle.ledger_calls.specs.Ledger.{openAnswer, openRoom, takeAnswer, takeRoom, verdictsOf, replayRefusal, replayAnswer, replayLedger, replayVerdicts};
+ghost use Rattle.row_calls.specs.Rows.{answerBytes, rowsBytes, rowsAnswer, rowsRoom, rowAnswer, rowRoom};
+ghost use Rattle.message_calls.specs.Message.{readingRoom, readAnswer, readRoom, frameAnswer, frameRoom, writeAnswer, writeRoom};
+use answers::detail;
 use broadcast::issues_refusal;
 use d1_subframes::read_subframe;
 use d1_subframes::write_subframe;
@@ -52,18 +55,6 @@ pub(crate) const ROW_SIZE: usize = 27;
 
 // The bytes of all rows: room for 174.
 pub(crate) const ROWS_SIZE: usize = 174 * ROW_SIZE;
-
-// What a verdict says in one number: its refusal number, then the first failing group and how many fail, or the number of places.
-fn detail(v: Verdict) -> u32
-    ensures { λ r. ⌜ r ≡ detailIn (says v) ⌝ }
-{
-    match v {
-        Verdict::Taken => 0,
-        Verdict::Refused(n) => n as u32,
-        Verdict::Parity(first, failing) => 6 + 256 * (first as u32) + 65536 * (failing as u32),
-        Verdict::Places(set) => 19 + 256 * (set as u32),
-    }
-}
 
 // A fresh ledger for a PRN. 4, 39.
 #[no_mangle]

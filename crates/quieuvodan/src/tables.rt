@@ -2,12 +2,12 @@
 ghost use mathlib.Core.Path.{_≡_};
 ghost use Prim.Native.Nat.{ℕ};
 ghost use Rattle.verdict.specs.Verdict.{numberIn};
-ghost use Rattle.boundary.specs.Detail.{detailIn};
-ghost use Rattle.boundary.specs.Table.{tableOpenAnswer, tableOpened, tableOpenTally, tableCloseAnswer, tableClosed, tableCloseTally, tableTakeAnswer, tableTaken, tableTakeTally, rowsForRefusal, tableRowsAnswer, tableRowsRoom, tableRowsTally, tableRowAnswer, tableRowRoom, tableRowTally};
+ghost use Rattle.answers.specs.Detail.{detailIn};
+ghost use Rattle.table_calls.specs.Table.{tableOpenAnswer, tableOpened, tableOpenTally, tableCloseAnswer, tableClosed, tableCloseTally, tableTakeAnswer, tableTaken, tableTakeTally, rowsForRefusal, tableRowsAnswer, tableRowsRoom, tableRowsTally, tableRowAnswer, tableRowRoom, tableRowTally};
 use crate::ROW_SIZE;
 use crate::ROWS_SIZE;
-use crate::detail;
 use crate::put_rows;
+use answers::detail;
 use flat_forms::put_row;
 use row::RowAnswer;
 use table::close;

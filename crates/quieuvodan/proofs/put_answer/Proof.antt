@@ -1,5 +1,5 @@
 use borrow.Author.Needs.{needs}
-use Rattle.boundary.proofs.BoundaryLaws.{answer-none, answer-some}
+use Rattle.row_calls.proofs.RowsLaws.{answer-none, answer-some}
 use Rattle.quieuvodan.proofs.put_answer.Statement.{statement}
 use Rattle.quieuvodan.proofs.put_answer.Tie as tie
 

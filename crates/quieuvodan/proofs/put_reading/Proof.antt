@@ -1,7 +1,7 @@
 use borrow.Author.Needs.{needs}
 use mathlib.Core.Path.{refl, sym, _∙_}
 use Rattle.message.specs.Read.{readingSays}
-use Rattle.boundary.proofs.BoundaryLaws.{put-no, put-yes}
+use Rattle.message_calls.proofs.MessageLaws.{put-no, put-yes}
 use Rattle.quieuvodan.proofs.put_reading.Statement.{statement}
 use Rattle.quieuvodan.proofs.put_reading.Tie as tie
 

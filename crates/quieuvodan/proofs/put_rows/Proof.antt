@@ -10,9 +10,9 @@ use Rattle.row.specs.Row.{rowSays, answerOf}
 use Rattle.list.specs.Rows.{rowIn, listIn}
 use Rattle.row.specs.declared.RowAnswer.the-variants.{Refused}
 use Rattle.list.proofs.AnswerLaws.{found-le, row-next}
-use Rattle.boundary.specs.Size.{rowSize}
-use Rattle.boundary.specs.Boundary.{rowsBytes}
-use Rattle.boundary.proofs.BoundaryLaws.{rows-turn, rows-over}
+use Rattle.answers.specs.Size.{rowSize}
+use Rattle.row_calls.specs.Rows.{rowsBytes}
+use Rattle.row_calls.proofs.RowsLaws.{rows-turn, rows-over}
 use Rattle.quieuvodan.proofs.put_rows.Statement.{statement}
 use Rattle.quieuvodan.proofs.put_rows.Tie as tie
 

@@ -1,6 +1,6 @@
 use borrow.Author.Needs.{needs}
 use mathlib.Core.Path.{ap, _∙_}
-use Rattle.boundary.specs.Detail.{detailIn}
+use Rattle.answers.specs.Detail.{detailIn}
 use Rattle.quieuvodan.proofs.qvd_check_frame.Statement.{statement}
 use Rattle.quieuvodan.proofs.qvd_check_frame.Tie as tie
 

@@ -1,7 +1,7 @@
 use borrow.Author.Needs.{needs}
 use mathlib.Core.Path.{sym, _∙_}
 use borrow.Author.Tests.{not-true, not-false}
-use Rattle.boundary.proofs.BoundaryLaws.{open-size, open-no, open-yes}
+use Rattle.ledger_calls.proofs.LedgerLaws.{open-size, open-no, open-yes}
 use Rattle.quieuvodan.proofs.qvd_open.Statement.{statement}
 use Rattle.quieuvodan.proofs.qvd_open.Tie as tie
 

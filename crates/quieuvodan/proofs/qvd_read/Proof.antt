@@ -2,8 +2,8 @@ use borrow.Author.Needs.{needs}
 use mathlib.Core.Path.{ap, _∙_}
 use Rattle.verdict.specs.Verdict.{numberIn}
 use Rattle.message.specs.Read.{Answer, readMessage}
-use Rattle.boundary.specs.Boundary.{readingRoom}
-use Rattle.boundary.proofs.BoundaryLaws.{reading-size, reading-right}
+use Rattle.message_calls.specs.Message.{readingRoom}
+use Rattle.message_calls.proofs.MessageLaws.{reading-size, reading-right}
 use Rattle.quieuvodan.proofs.qvd_read.Statement.{statement}
 use Rattle.quieuvodan.proofs.qvd_read.Tie as tie
 

@@ -3,8 +3,8 @@ use mathlib.Core.Path.{ap, _∙_}
 use Rattle.verdict.specs.Verdict.{numberIn}
 use Rattle.message.specs.Read.{Answer}
 use Rattle.frame.specs.Frame.{readFrame}
-use Rattle.boundary.specs.Boundary.{readingRoom}
-use Rattle.boundary.proofs.BoundaryLaws.{reading-size, reading-right}
+use Rattle.message_calls.specs.Message.{readingRoom}
+use Rattle.message_calls.proofs.MessageLaws.{reading-size, reading-right}
 use Rattle.quieuvodan.proofs.qvd_read_frame.Statement.{statement}
 use Rattle.quieuvodan.proofs.qvd_read_frame.Tie as tie
 

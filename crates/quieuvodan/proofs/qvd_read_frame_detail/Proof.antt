@@ -1,10 +1,10 @@
 use borrow.Author.Needs.{needs}
 use mathlib.Core.Path.{ap, _∙_}
-use Rattle.boundary.specs.Detail.{detailIn}
+use Rattle.answers.specs.Detail.{detailIn}
 use Rattle.message.specs.Read.{Answer}
 use Rattle.frame.specs.Frame.{readFrame}
-use Rattle.boundary.specs.Boundary.{readingRoom}
-use Rattle.boundary.proofs.BoundaryLaws.{reading-size, reading-right}
+use Rattle.message_calls.specs.Message.{readingRoom}
+use Rattle.message_calls.proofs.MessageLaws.{reading-size, reading-right}
 use Rattle.quieuvodan.proofs.qvd_read_frame_detail.Statement.{statement}
 use Rattle.quieuvodan.proofs.qvd_read_frame_detail.Tie as tie
 

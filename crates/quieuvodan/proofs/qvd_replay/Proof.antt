@@ -4,8 +4,8 @@ use mathlib.Core.Path.{sym, ap, _∙_}
 use mathlib.Core.List.{List}
 use Rattle.in_force.specs.Bytes.{runBytes, framesOf}
 use Rattle.verdict.specs.Verdict.{numberIn}
-use Rattle.boundary.specs.Boundary.{verdictsOf}
-use Rattle.boundary.proofs.ReplayLaws.{refusal-fits, replay-no, replay-yes}
+use Rattle.ledger_calls.specs.Ledger.{verdictsOf}
+use Rattle.ledger_calls.proofs.ReplayLaws.{refusal-fits, replay-no, replay-yes}
 use Rattle.quieuvodan.proofs.qvd_replay.Statement.{statement}
 use Rattle.quieuvodan.proofs.qvd_replay.Tie as tie
 

@@ -3,9 +3,9 @@ use Prim.Native.Nat.{ℕ}
 use mathlib.Core.Path.{sym, ap, _∙_}
 use mathlib.Core.List.{List}
 use Rattle.in_force.specs.Bytes.{runBytes, framesOf}
-use Rattle.boundary.specs.Detail.{detailIn}
-use Rattle.boundary.specs.Boundary.{verdictsOf}
-use Rattle.boundary.proofs.ReplayLaws.{refusal-fits, replay-no, replay-yes}
+use Rattle.answers.specs.Detail.{detailIn}
+use Rattle.ledger_calls.specs.Ledger.{verdictsOf}
+use Rattle.ledger_calls.proofs.ReplayLaws.{refusal-fits, replay-no, replay-yes}
 use Rattle.quieuvodan.proofs.qvd_replay_detail.Statement.{statement}
 use Rattle.quieuvodan.proofs.qvd_replay_detail.Tie as tie
 

@@ -1,7 +1,7 @@
 use borrow.Author.Needs.{needs}
 use mathlib.Core.Path.{sym, ap, _∙_}
 use Rattle.row.specs.Row.{rowSays}
-use Rattle.boundary.proofs.BoundaryLaws.{row-ledger, row-size, row-found, row-none}
+use Rattle.row_calls.proofs.RowsLaws.{row-ledger, row-size, row-found, row-none}
 use Rattle.quieuvodan.proofs.qvd_row.Statement.{statement}
 use Rattle.quieuvodan.proofs.qvd_row.Tie as tie
 

@@ -5,8 +5,8 @@ use mathlib.Core.List.{List}
 use Rattle.bits.specs.Bytes.{storeAt}
 use Rattle.list.specs.Rows.{listIn}
 use Rattle.broadcast.proofs.IssueLaws.{issues-long}
-use Rattle.boundary.specs.Boundary.{rowsBytes}
-use Rattle.boundary.proofs.BoundaryLaws.{rows-ledger, rows-size, rows-bad, rows-right}
+use Rattle.row_calls.specs.Rows.{rowsBytes}
+use Rattle.row_calls.proofs.RowsLaws.{rows-ledger, rows-size, rows-bad, rows-right}
 use Rattle.quieuvodan.proofs.qvd_rows.Statement.{statement}
 use Rattle.quieuvodan.proofs.qvd_rows.Tie as tie
 

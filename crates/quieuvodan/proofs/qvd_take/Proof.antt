@@ -1,7 +1,7 @@
 use borrow.Author.Needs.{needs}
 use mathlib.Core.Path.{ap, _∙_}
 use Rattle.verdict.specs.Verdict.{numberIn}
-use Rattle.boundary.proofs.BoundaryLaws.{take-size, take-right}
+use Rattle.ledger_calls.proofs.LedgerLaws.{take-size, take-right}
 use Rattle.quieuvodan.proofs.qvd_take.Statement.{statement}
 use Rattle.quieuvodan.proofs.qvd_take.Tie as tie
 

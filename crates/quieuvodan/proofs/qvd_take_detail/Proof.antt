@@ -1,7 +1,7 @@
 use borrow.Author.Needs.{needs}
 use mathlib.Core.Path.{ap, _∙_}
-use Rattle.boundary.specs.Detail.{detailIn}
-use Rattle.boundary.proofs.BoundaryLaws.{take-size, take-right}
+use Rattle.answers.specs.Detail.{detailIn}
+use Rattle.ledger_calls.proofs.LedgerLaws.{take-size, take-right}
 use Rattle.quieuvodan.proofs.qvd_take_detail.Statement.{statement}
 use Rattle.quieuvodan.proofs.qvd_take_detail.Tie as tie
 

@@ -3,7 +3,7 @@ use mathlib.Core.Path.{ap, _∙_}
 use Rattle.verdict.specs.Verdict.{numberIn, refusedBy}
 use Rattle.contents.specs.declared.parts.Contents.{Contents}
 use Rattle.writing.specs.Write.{writeRefusal, written}
-use Rattle.boundary.proofs.BoundaryLaws.{write-size, write-right}
+use Rattle.message_calls.proofs.MessageLaws.{write-size, write-right}
 use Rattle.quieuvodan.proofs.qvd_write.Statement.{statement}
 use Rattle.quieuvodan.proofs.qvd_write.Tie as tie
 

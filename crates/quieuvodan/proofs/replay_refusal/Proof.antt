@@ -1,7 +1,7 @@
 use borrow.Author.Needs.{needs}
 use mathlib.Core.Path.{sym, _∙_}
 use borrow.Author.Tests.{not-true, not-false}
-use Rattle.boundary.proofs.ReplayLaws.{refusal-ledger, refusal-room, refusal-prn, refusal-none}
+use Rattle.ledger_calls.proofs.ReplayLaws.{refusal-ledger, refusal-room, refusal-prn, refusal-none}
 use Rattle.quieuvodan.proofs.replay_refusal.Statement.{statement}
 use Rattle.quieuvodan.proofs.replay_refusal.Tie as tie
 

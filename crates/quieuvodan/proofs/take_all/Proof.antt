@@ -5,7 +5,7 @@ use Prim.Native.Nat.{_-_}
 use mathlib.Core.Path.{ap, _∙_}
 use lib.ListN.{length, length-set}
 use Rattle.verdict.specs.Verdict.{numberIn}
-use Rattle.boundary.proofs.ReplayLaws.{Taking, taking-start, taking-turn, taking-end}
+use Rattle.ledger_calls.proofs.ReplayLaws.{Taking, taking-start, taking-turn, taking-end}
 use Rattle.quieuvodan.proofs.take_all.Statement.{statement}
 use Rattle.quieuvodan.proofs.take_all.Tie as tie
 

@@ -4,8 +4,8 @@ use native.Mathlib.Omega.{arith}
 use Prim.Native.Nat.{_-_}
 use mathlib.Core.Path.{ap, _∙_}
 use lib.ListN.{length, length-set}
-use Rattle.boundary.specs.Detail.{detailIn}
-use Rattle.boundary.proofs.ReplayLaws.{Taking, taking-start, taking-turn, taking-end}
+use Rattle.answers.specs.Detail.{detailIn}
+use Rattle.ledger_calls.proofs.ReplayLaws.{Taking, taking-start, taking-turn, taking-end}
 use Rattle.quieuvodan.proofs.take_all_detail.Statement.{statement}
 use Rattle.quieuvodan.proofs.take_all_detail.Tie as tie
 

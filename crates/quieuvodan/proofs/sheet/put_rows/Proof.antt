@@ -8,9 +8,9 @@ use Rattle.bits.specs.Bytes.{storeAt}
 use Rattle.row.specs.declared.Row.{Row}
 use Rattle.flat_forms.specs.Write.{rowBytes}
 use Rattle.sheet_form.specs.Reading.{rowsSaidFrom}
-use Rattle.boundary.specs.Size.{rowSize}
-use Rattle.boundary.specs.Boundary.{rowsBytes}
-use Rattle.boundary.proofs.SheetLaws.{said-turn, said-over}
+use Rattle.answers.specs.Size.{rowSize}
+use Rattle.row_calls.specs.Rows.{rowsBytes}
+use Rattle.sheet_calls.proofs.SheetLaws.{said-turn, said-over}
 use Rattle.quieuvodan.proofs.sheet.put_rows.Statement.{statement}
 use Rattle.quieuvodan.proofs.sheet.put_rows.Tie as tie
 

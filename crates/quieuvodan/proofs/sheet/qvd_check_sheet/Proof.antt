@@ -1,6 +1,6 @@
 use borrow.Author.Needs.{needs}
 use mathlib.Core.Path.{_∙_}
-use Rattle.boundary.proofs.CheckSheetLaws.{check-near, check-sheet-size, check-sheet-right}
+use Rattle.sheet_calls.proofs.CheckSheetLaws.{check-near, check-sheet-size, check-sheet-right}
 use Rattle.quieuvodan.proofs.sheet.qvd_check_sheet.Statement.{statement}
 use Rattle.quieuvodan.proofs.sheet.qvd_check_sheet.Tie as tie
 

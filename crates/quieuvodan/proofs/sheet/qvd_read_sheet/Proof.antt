@@ -9,8 +9,8 @@ use Rattle.sheet_form.specs.Reading.{rowsSaidFrom}
 use Rattle.sheet_writing.specs.Writing.{mostSheetRows}
 use Rattle.sheet_reading.specs.Answer.{readSays, readAnswer}
 use Rattle.sheet_reading.specs.declared.SheetRead.the-variants.{Wrong}
-use Rattle.boundary.specs.Boundary.{rowsBytes}
-use Rattle.boundary.proofs.SheetLaws.{answer-near, read-header-size, read-rows-size, read-wrong, read-right}
+use Rattle.row_calls.specs.Rows.{rowsBytes}
+use Rattle.sheet_calls.proofs.SheetLaws.{answer-near, read-header-size, read-rows-size, read-wrong, read-right}
 use Rattle.quieuvodan.proofs.sheet.qvd_read_sheet.Statement.{statement}
 use Rattle.quieuvodan.proofs.sheet.qvd_read_sheet.Tie as tie
 

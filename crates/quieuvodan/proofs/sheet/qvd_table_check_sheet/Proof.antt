@@ -1,6 +1,6 @@
 use borrow.Author.Needs.{needs}
 use mathlib.Core.Path.{_∙_}
-use Rattle.boundary.proofs.TableLaws.{table-check-tally, table-check-right, check-for-near}
+use Rattle.table_calls.proofs.TableLaws.{table-check-tally, table-check-right, check-for-near}
 use Rattle.quieuvodan.proofs.sheet.qvd_table_check_sheet.Statement.{statement}
 use Rattle.quieuvodan.proofs.sheet.qvd_table_check_sheet.Tie as tie
 

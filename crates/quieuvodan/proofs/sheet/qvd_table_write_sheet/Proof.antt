@@ -1,5 +1,5 @@
 use borrow.Author.Needs.{needs}
-use Rattle.boundary.proofs.TableLaws.{table-sheet-tally, table-sheet-right}
+use Rattle.table_calls.proofs.TableLaws.{table-sheet-tally, table-sheet-right}
 use Rattle.quieuvodan.proofs.sheet.qvd_table_write_sheet.Statement.{statement}
 use Rattle.quieuvodan.proofs.sheet.qvd_table_write_sheet.Tie as tie
 

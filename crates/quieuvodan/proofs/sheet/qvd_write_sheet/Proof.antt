@@ -1,7 +1,7 @@
 use borrow.Author.Needs.{needs}
 use mathlib.Core.Path.{ap, _∙_}
-use Rattle.boundary.specs.Sheet.{writtenIn}
-use Rattle.boundary.proofs.SheetLaws.{write-sheet-size, write-sheet-right}
+use Rattle.sheet_calls.specs.Sheet.{writtenIn}
+use Rattle.sheet_calls.proofs.SheetLaws.{write-sheet-size, write-sheet-right}
 use Rattle.quieuvodan.proofs.sheet.qvd_write_sheet.Statement.{statement}
 use Rattle.quieuvodan.proofs.sheet.qvd_write_sheet.Tie as tie
 

@@ -1,7 +1,7 @@
 use borrow.Author.Needs.{needs}
 use mathlib.Core.Path.{ap, _∙_}
 use Rattle.verdict.specs.Verdict.{numberIn}
-use Rattle.boundary.proofs.TableLaws.{table-close-tally, table-close-right}
+use Rattle.table_calls.proofs.TableLaws.{table-close-tally, table-close-right}
 use Rattle.quieuvodan.proofs.tables.qvd_table_close.Statement.{statement}
 use Rattle.quieuvodan.proofs.tables.qvd_table_close.Tie as tie
 

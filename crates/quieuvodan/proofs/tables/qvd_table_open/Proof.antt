@@ -1,7 +1,7 @@
 use borrow.Author.Needs.{needs}
 use mathlib.Core.Path.{ap, _∙_}
 use Rattle.verdict.specs.Verdict.{numberIn}
-use Rattle.boundary.proofs.TableLaws.{table-open-tally, table-open-right}
+use Rattle.table_calls.proofs.TableLaws.{table-open-tally, table-open-right}
 use Rattle.quieuvodan.proofs.tables.qvd_table_open.Statement.{statement}
 use Rattle.quieuvodan.proofs.tables.qvd_table_open.Tie as tie
 

@@ -1,7 +1,7 @@
 use borrow.Author.Needs.{needs}
 use mathlib.Core.Path.{sym, ap, _∙_}
 use Rattle.row.specs.Row.{rowSays}
-use Rattle.boundary.proofs.TableLaws.{table-row-tally, table-row-room, table-row-none, table-row-found}
+use Rattle.table_calls.proofs.TableLaws.{table-row-tally, table-row-room, table-row-none, table-row-found}
 use Rattle.quieuvodan.proofs.tables.qvd_table_row.Statement.{statement}
 use Rattle.quieuvodan.proofs.tables.qvd_table_row.Tie as tie
 

@@ -6,8 +6,8 @@ use mathlib.Core.List.{List}
 use Rattle.bits.specs.Bytes.{storeAt}
 use Rattle.list.specs.Rows.{listIn}
 use Rattle.broadcast.proofs.IssueLaws.{issues-long}
-use Rattle.boundary.specs.Boundary.{rowsBytes}
-use Rattle.boundary.proofs.TableLaws.{table-rows-tally, table-rows-bad, table-rows-right, rows-sound}
+use Rattle.row_calls.specs.Rows.{rowsBytes}
+use Rattle.table_calls.proofs.TableLaws.{table-rows-tally, table-rows-bad, table-rows-right, rows-sound}
 use Rattle.quieuvodan.proofs.tables.qvd_table_rows.Statement.{statement}
 use Rattle.quieuvodan.proofs.tables.qvd_table_rows.Tie as tie
 

@@ -1,6 +1,6 @@
 use borrow.Author.Needs.{needs}
 use Rattle.verdict.specs.Verdict.{numberIn}
-use Rattle.boundary.proofs.TableLaws.{table-take-tally, table-take-right}
+use Rattle.table_calls.proofs.TableLaws.{table-take-tally, table-take-right}
 use Rattle.quieuvodan.proofs.tables.qvd_table_take.Statement.{statement}
 use Rattle.quieuvodan.proofs.tables.qvd_table_take.Tie as tie
 

@@ -1,6 +1,6 @@
 use borrow.Author.Needs.{needs}
-use Rattle.boundary.specs.Detail.{detailIn}
-use Rattle.boundary.proofs.TableLaws.{table-take-tally, table-take-right}
+use Rattle.answers.specs.Detail.{detailIn}
+use Rattle.table_calls.proofs.TableLaws.{table-take-tally, table-take-right}
 use Rattle.quieuvodan.proofs.tables.qvd_table_take_detail.Statement.{statement}
 use Rattle.quieuvodan.proofs.tables.qvd_table_take_detail.Tie as tie
 

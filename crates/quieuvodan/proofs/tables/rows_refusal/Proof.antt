@@ -1,5 +1,5 @@
 use borrow.Author.Needs.{needs}
-use Rattle.boundary.proofs.TableLaws.{rows-room, rows-asked}
+use Rattle.table_calls.proofs.TableLaws.{rows-room, rows-asked}
 use Rattle.quieuvodan.proofs.tables.rows_refusal.Statement.{statement}
 use Rattle.quieuvodan.proofs.tables.rows_refusal.Tie as tie
 

@@ -1,0 +1,2 @@
+pub mod D1Laws
+pub mod Cnav1Laws

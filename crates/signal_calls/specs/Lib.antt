@@ -1,0 +1,2 @@
+pub mod D1
+pub mod Cnav1
