@@ -4,6 +4,12 @@ ghost use Rattle.verdict.specs.Verdict.{says};
 ghost use Rattle.answers.specs.Detail.{detailIn};
 use verdict::Verdict;
 
+// The bytes of a row.
+pub const ROW_SIZE: usize = 27;
+
+// The bytes of all rows: room for 174.
+pub const ROWS_SIZE: usize = 174 * ROW_SIZE;
+
 // What a verdict says in one number: its refusal number, then the first failing group and how many fail, or the number of places.
 pub fn detail(v: Verdict) -> u32
     ensures { λ r. ⌜ r ≡ detailIn (says v) ⌝ }

@@ -1,29 +1,22 @@
 // The library at the C boundary: include/quieuvodan.h. Every function answers 0 or one refusal number; 39 is a lent slice of a wrong length.
 ghost use mathlib.Core.Path.{_≡_};
-ghost use Prim.Native.Nat.{_+_, _*_, _/_, _<_};
 ghost use lib.ListN.{length};
-ghost use Rattle.bits.specs.Bytes.{storeAt};
 ghost use Rattle.verdict.specs.Verdict.{says, numberIn};
 ghost use Rattle.message.specs.Read.{readingSays};
 ghost use Rattle.making.specs.Make.{Leaves};
 ghost use Rattle.pieces.specs.Pieces.{pieceLength};
-ghost use Rattle.in_force.specs.Bytes.{runBytes, framesOf};
-ghost use Rattle.row.specs.Row.{rowSays};
-ghost use Rattle.list.specs.Rows.{foundCount, listIn};
-ghost use Rattle.answers.specs.Size.{contentsSize, rowSize};
+ghost use Rattle.answers.specs.Size.{contentsSize};
 ghost use Rattle.answers.specs.Detail.{detailIn};
 ghost use Rattle.signal_calls.specs.D1.{d1ReadAnswer, d1ReadRoom, d1WriteAnswer, d1WriteRoom};
 ghost use Rattle.signal_calls.specs.Cnav1.{cnav1Answer, cnav1Room, joinAnswer, joinRoom};
 ghost use Rattle.message_calls.specs.Make.{makeAnswer, checkAnswer};
-ghost use Rattle.ledger_calls.specs.Ledger.{openAnswer, openRoom, takeAnswer, takeRoom, verdictsOf, replayRefusal, replayAnswer, replayLedger, replayVerdicts};
-ghost use Rattle.row_calls.specs.Rows.{answerBytes, rowsBytes, rowsAnswer, rowsRoom, rowAnswer, rowRoom};
+ghost use Rattle.ledger_calls.specs.Ledger.{openAnswer, openRoom, takeAnswer, takeRoom, replayAnswer, replayLedger, replayVerdicts};
+ghost use Rattle.row_calls.specs.Rows.{rowsAnswer, rowsRoom, rowAnswer, rowRoom};
 ghost use Rattle.message_calls.specs.Message.{readingRoom, readAnswer, readRoom, frameAnswer, frameRoom, writeAnswer, writeRoom};
 use answers::detail;
-use broadcast::issues_refusal;
 use d1_subframes::read_subframe;
 use d1_subframes::write_subframe;
 use flat_forms::put_contents;
-use flat_forms::put_row;
 use flat_subframe2::read_fields;
 use frame::is_prn;
 use frame::read_frame;
@@ -31,15 +24,9 @@ use from_flat::contents_of;
 use held_mask::LEDGER_SIZE;
 use joining::join;
 use ledger::open::make_fresh;
-use ledger::replay::frame_count;
-use ledger::replay::take_nth;
 use ledger::take::take_in;
-use list::rows::row_of_slot;
 use message::Reading;
 use message::read;
-use row::RowAnswer;
-use row::slot_row;
-use slots::Slot;
 use verdict::Verdict;
 use verdict::number_of;
 use writing::write;
@@ -49,12 +36,6 @@ pub mod tables;
 
 // The bytes of contents.
 const CONTENTS_SIZE: usize = 516;
-
-// The bytes of a row.
-pub(crate) const ROW_SIZE: usize = 27;
-
-// The bytes of all rows: room for 174.
-pub(crate) const ROWS_SIZE: usize = 174 * ROW_SIZE;
 
 // A fresh ledger for a PRN. 4, 39.
 #[no_mangle]
@@ -96,50 +77,6 @@ pub extern "C" fn qvd_take_detail(ledger: &mut [u8], frame: &[u8]) -> u32
     detail(take_in(ledger, frame))
 }
 
-// The frames of a log are taken in order, and the number of each verdict is kept.
-fn take_all(t: &mut [u8], log: &[u8], verdicts: &mut [u8])
-    requires { ⌜ length (now verdicts) ≡ (length (now log) + 124) / 125 ⌝ }
-    ensures bytes { λ r. ⌜ now (t .exit) ≡ runBytes (now (t .entry)) (framesOf (now (log .entry))) ⌝ }
-    ensures answers { λ r. ⌜ now (verdicts .exit) ≡ verdictsOf numberIn (now (t .entry)) (now (log .entry)) ⌝ }
-{
-    let mut i: usize = 0;
-    while i < verdicts.len() {
-        let n = number_of(take_nth(t, log, i));
-        verdicts[i] = n;
-        i += 1;
-    }
-}
-
-// The frames of a log are taken in order, and all that each verdict says is kept.
-fn take_all_detail(t: &mut [u8], log: &[u8], details: &mut [u32])
-    requires { ⌜ length (now details) ≡ (length (now log) + 124) / 125 ⌝ }
-    ensures bytes { λ r. ⌜ now (t .exit) ≡ runBytes (now (t .entry)) (framesOf (now (log .entry))) ⌝ }
-    ensures answers { λ r. ⌜ now (details .exit) ≡ verdictsOf detailIn (now (t .entry)) (now (log .entry)) ⌝ }
-{
-    let mut i: usize = 0;
-    while i < details.len() {
-        let n = detail(take_nth(t, log, i));
-        details[i] = n;
-        i += 1;
-    }
-}
-
-// Why a replay is refused, by the lengths of what is lent and the PRN. 4, 39; 0 if it is not.
-fn replay_refusal(ledger: usize, prn: u8, log: usize, verdicts: usize) -> u8
-    ensures { λ r. ⌜ r ≡ replayRefusal ledger prn log verdicts ⌝ }
-{
-    if ledger != LEDGER_SIZE {
-        return 39;
-    }
-    if verdicts != frame_count(log) {
-        return 39;
-    }
-    if !is_prn(prn) {
-        return 4;
-    }
-    0
-}
-
 // A fresh ledger for a PRN takes all frames of a log, one verdict byte a frame; a rest at the end is one more frame. 4, 39.
 #[no_mangle]
 pub extern "C" fn qvd_replay(ledger: &mut [u8], prn: u8, log: &[u8], verdicts: &mut [u8]) -> u8
@@ -147,13 +84,7 @@ pub extern "C" fn qvd_replay(ledger: &mut [u8], prn: u8, log: &[u8], verdicts: &
     ensures bytes { λ r. ⌜ now (ledger .exit) ≡ replayLedger (now (ledger .entry)) prn (now (log .entry)) (now (verdicts .entry)) ⌝ }
     ensures answers { λ r. ⌜ now (verdicts .exit) ≡ replayVerdicts numberIn (now (ledger .entry)) prn (now (log .entry)) (now (verdicts .entry)) ⌝ }
 {
-    let why = replay_refusal(ledger.len(), prn, log.len(), verdicts.len());
-    if why != 0 {
-        return why;
-    }
-    make_fresh(ledger, prn);
-    take_all(ledger, log, verdicts);
-    0
+    replaying::replay(ledger, prn, log, verdicts)
 }
 
 // A fresh ledger for a PRN takes all frames of a log, and each number also says what 6 and 19 carry. 4, 39.
@@ -168,41 +99,7 @@ pub extern "C" fn qvd_replay_detail(
     ensures bytes { λ r. ⌜ now (ledger .exit) ≡ replayLedger (now (ledger .entry)) prn (now (log .entry)) (now (details .entry)) ⌝ }
     ensures answers { λ r. ⌜ now (details .exit) ≡ replayVerdicts detailIn (now (ledger .entry)) prn (now (log .entry)) (now (details .entry)) ⌝ }
 {
-    let why = replay_refusal(ledger.len(), prn, log.len(), details.len());
-    if why != 0 {
-        return why;
-    }
-    make_fresh(ledger, prn);
-    take_all_detail(ledger, log, details);
-    0
-}
-
-// The answer's row, if it is one, is put as row n, from 0; says how many rows there are then.
-fn put_answer(rows: &mut [u8], n: usize, a: RowAnswer) -> usize
-    requires { ⌜ n < 255 ⌝ }
-    ensures count { λ r. ⌜ r ≡ n + foundCount (rowSays a) ⌝ }
-    ensures bytes { λ r. ⌜ now (rows .exit) ≡ storeAt (now (rows .entry)) (rowSize * n) (answerBytes (rowSays a .1)) ⌝ }
-{
-    let RowAnswer::Found(r) = a else {
-        return n;
-    };
-    put_row(rows, ROW_SIZE * n, r);
-    n + 1
-}
-
-// The rows of all slots that qualify are put, one after the other.
-fn put_rows(ledger: &[u8], issues: &[u16], rows: &mut [u8])
-    requires { ⌜ length (now issues) ≡ 255 ⌝ }
-    ensures { λ r. ⌜ now (rows .exit) ≡ storeAt (now (rows .entry)) 0 (rowsBytes (listIn (now (ledger .entry)) (now (issues .entry)))) ⌝ }
-{
-    let mut n: usize = 0;
-    let mut i: usize = 0;
-    while i < 255 {
-        let slot = (i + 1) as u8;
-        let a = slot_row(ledger, Slot(slot), issues[i]);
-        n = put_answer(rows, n, a);
-        i += 1;
-    }
+    replaying::replay_detail(ledger, prn, log, details)
 }
 
 // All rows in rising slot order, then zeros. 1, 17, 39.
@@ -211,19 +108,7 @@ pub extern "C" fn qvd_rows(ledger: &[u8], issues: &[u16], rows: &mut [u8]) -> u8
     ensures answer { λ r. ⌜ r ≡ rowsAnswer (now (ledger .entry)) (now (issues .entry)) (now (rows .entry)) ⌝ }
     ensures bytes { λ r. ⌜ now (rows .exit) ≡ rowsRoom (now (ledger .entry)) (now (issues .entry)) (now (rows .entry)) ⌝ }
 {
-    if ledger.len() != LEDGER_SIZE {
-        return 39;
-    }
-    if rows.len() != ROWS_SIZE {
-        return 39;
-    }
-    let why = issues_refusal(issues);
-    if why != 0 {
-        return why;
-    }
-    lent::clear(rows);
-    put_rows(ledger, issues, rows);
-    0
+    row_rooms::rows(ledger, issues, rows)
 }
 
 // The row of a slot. 1, 11, 17, 18, 39.
@@ -232,20 +117,7 @@ pub extern "C" fn qvd_row(ledger: &[u8], issues: &[u16], slot: u16, row: &mut [u
     ensures answer { λ r. ⌜ r ≡ rowAnswer (now (ledger .entry)) (now (issues .entry)) slot (now (row .entry)) ⌝ }
     ensures bytes { λ r. ⌜ now (row .exit) ≡ rowRoom (now (ledger .entry)) (now (issues .entry)) slot (now (row .entry)) ⌝ }
 {
-    if ledger.len() != LEDGER_SIZE {
-        return 39;
-    }
-    if row.len() != ROW_SIZE {
-        return 39;
-    }
-    let a = row_of_slot(ledger, issues, slot);
-    match a {
-        RowAnswer::Found(r) => {
-            put_row(row, 0, r);
-            0
-        }
-        RowAnswer::Refused(n) => n,
-    }
+    row_rooms::row(ledger, issues, slot, row)
 }
 
 // The contents that are read are put, where the reading is taken; its verdict.

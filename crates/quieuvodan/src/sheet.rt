@@ -3,33 +3,19 @@ ghost use mathlib.Core.Path.{_≡_};
 ghost use Prim.Native.Nat.{ℕ, _+_, _*_, _≤_};
 ghost use mathlib.Core.List.{[], _∷_};
 ghost use lib.ListN.{length};
-ghost use Rattle.bits.specs.Bytes.{storeAt};
-ghost use Rattle.sheet_form.specs.Reading.{rowsSaidFrom};
 ghost use Rattle.verdict.specs.Verdict.{numberIn};
 ghost use Rattle.sheet_writing.specs.Writing.{mostSheetRows, sheetSays};
 ghost use Rattle.sheet_checking.specs.Checking.{checkedSays};
-ghost use Rattle.row_calls.specs.Rows.{rowsBytes};
-ghost use Rattle.sheet_calls.specs.Sheet.{writtenIn, writeSheetAnswer, writeSheetRoom, headerBytes, readSheetAnswer, readSheetHeader, readSheetRows, checkSheetAnswer};
+ghost use Rattle.sheet_calls.specs.Sheet.{writtenIn, writeSheetAnswer, writeSheetRoom, readSheetAnswer, readSheetHeader, readSheetRows, checkSheetAnswer};
 ghost use Rattle.answers.specs.Detail.{detailIn};
 ghost use Rattle.table_calls.specs.Table.{tableSheetAnswer, tableSheetRoom, tableSheetTally, tableCheckAnswer, tableCheckTally};
-use crate::ROW_SIZE;
-use crate::ROWS_SIZE;
-use flat_forms::put_row;
 use held_mask::LEDGER_SIZE;
 use sheet_checking::Checked;
 use sheet_checking::check_sheet;
-use sheet_form::Header;
-use sheet_reading::SheetRead;
-use sheet_reading::read_sheet;
-use sheet_reading::row_said;
-use sheet_writing::MOST_ROWS;
 use sheet_writing::Sheet;
 use sheet_writing::write_sheet;
 use tally::TALLY_SIZE;
 use tally::count;
-
-// The bytes of what a sheet's header says.
-const SHEET_HEADER_SIZE: usize = 5;
 
 // What a writer's answer says in one number: 256 times the sheet's length, or the refusal number.
 fn written(a: Sheet) -> u32
@@ -53,32 +39,6 @@ pub extern "C" fn qvd_write_sheet(ledger: &[u8], issues: &[u16], room: &mut [u8]
     written(write_sheet(room, ledger, issues))
 }
 
-// What a header says is put.
-fn put_header(room: &mut [u8], h: Header)
-    ensures { λ r. ⌜ now (room .exit) ≡ storeAt (now (room .entry)) 0 (headerBytes h) ⌝ }
-{
-    let hi = (h.rows / 256) as u8;
-    let lo = (h.rows % 256) as u8;
-    let b: [u8; SHEET_HEADER_SIZE] = [h.prn, h.ssr, h.iodp, hi, lo];
-    lent::store(room, 0, &b);
-}
-
-// What the n rows of a sheet say is put, one after the other.
-fn put_rows(rows: &mut [u8], sheet: &[u8], n: u16)
-    ensures { λ r. ⌜ now (rows .exit) ≡ storeAt (now (rows .entry)) 0 (rowsBytes (rowsSaidFrom (now (sheet .entry)) n 8)) ⌝ }
-{
-    let mut at: u32 = 8;
-    let mut k: usize = 0;
-    let mut left = n;
-    while 0 < left {
-        let r = row_said(sheet, at);
-        put_row(rows, k, r);
-        at += 24;
-        k += ROW_SIZE;
-        left -= 1;
-    }
-}
-
 // What a sheet says: its header, and its rows with zeros after them; on a refusal both rooms are as they were. 23 with its offset, 39.
 #[no_mangle]
 pub extern "C" fn qvd_read_sheet(sheet: &[u8], header: &mut [u8], rows: &mut [u8]) -> u32
@@ -86,22 +46,7 @@ pub extern "C" fn qvd_read_sheet(sheet: &[u8], header: &mut [u8], rows: &mut [u8
     ensures header { λ r. ⌜ now (header .exit) ≡ readSheetHeader (now (sheet .entry)) (now (header .entry)) (now (rows .entry)) ⌝ }
     ensures rows { λ r. ⌜ now (rows .exit) ≡ readSheetRows (now (sheet .entry)) (now (header .entry)) (now (rows .entry)) ⌝ }
 {
-    if header.len() != SHEET_HEADER_SIZE {
-        return 39;
-    }
-    if rows.len() != ROWS_SIZE {
-        return 39;
-    }
-    let a = read_sheet(sheet, MOST_ROWS, true);
-    match a {
-        SheetRead::Wrong(at) => 23 + 256 * at,
-        SheetRead::Read(h) => {
-            put_header(header, h);
-            lent::clear(rows);
-            put_rows(rows, sheet, h.rows);
-            0
-        }
-    }
+    sheet_rooms::read_into(sheet, header, rows)
 }
 
 // What a checker's answer says in one number: 256 times the rows left out, or the refusal number and 256 times the value beside it.

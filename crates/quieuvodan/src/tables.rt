@@ -1,15 +1,14 @@
 // A table of four ledgers at the C boundary, with the tally of refusals: 02, CR 14.
 ghost use mathlib.Core.Path.{_≡_};
-ghost use Prim.Native.Nat.{ℕ};
 ghost use Rattle.verdict.specs.Verdict.{numberIn};
 ghost use Rattle.answers.specs.Detail.{detailIn};
 ghost use Rattle.table_calls.specs.Table.{tableOpenAnswer, tableOpened, tableOpenTally, tableCloseAnswer, tableClosed, tableCloseTally, tableTakeAnswer, tableTaken, tableTakeTally, rowsForRefusal, tableRowsAnswer, tableRowsRoom, tableRowsTally, tableRowAnswer, tableRowRoom, tableRowTally};
-use crate::ROW_SIZE;
-use crate::ROWS_SIZE;
-use crate::put_rows;
+use answers::ROW_SIZE;
+use answers::ROWS_SIZE;
 use answers::detail;
 use flat_forms::put_row;
 use row::RowAnswer;
+use row_rooms::fill_rows;
 use table::close;
 use table::open;
 use table::take;
@@ -111,8 +110,7 @@ pub extern "C" fn qvd_table_rows(
         count(tally, why);
         return why;
     }
-    lent::clear(rows);
-    put_rows(ledger_for(table, prn), issues, rows);
+    fill_rows(ledger_for(table, prn), issues, rows);
     0
 }
 

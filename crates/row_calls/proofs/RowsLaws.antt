@@ -22,7 +22,7 @@ use Rattle.broadcast.specs.Issues.{issuesRefusal}
 use Rattle.list.specs.Rows.{listIn, rowOfSlotAnswer}
 use Rattle.flat_forms.proofs.FlatLaws.{row-whole}
 use Rattle.answers.specs.Size.{rowSize}
-use Rattle.row_calls.specs.Rows.{rowsSize, answerBytes, rowsBytes, rowsAnswer, rowsRoom, rowAnswer, rowRoom}
+use Rattle.row_calls.specs.Rows.{rowsSize, answerBytes, rowsBytes, rowsFilled, rowsAnswer, rowsRoom, rowAnswer, rowRoom}
 
 -- ---- rows put one after the other, as a loop's turn has them
 answer-of : (o : Option Row) (rest : List Row) → rowsBytes (toList o ++ rest) ≡ answerBytes (answerOf 0 o .1) ++ rowsBytes rest
@@ -57,6 +57,16 @@ answer-none s n a m e = rw e (omega arith, refl)
 pub answer-some : (s : List ℕ) (n : ℕ) (a : RowAnswer) (r : Row) (t : List ℕ) → a ≡ Found r → t ≡ storeAt s (rowSize * n) (rowBytes r) →
     (n + 1 ≡ n + foundCount (rowSays a)) × (t ≡ storeAt s (rowSize * n) (answerBytes (rowSays a .1)))
 answer-some s n a r t e b = rw e (refl, b)
+
+-- ---- the room filled, or left
+module _ (s is room : List ℕ) where
+  pub filled-none : length is ≢ 255 → room ≡ rowsFilled s is room
+  unfolding rowsFilled
+  filled-none n = rw (ne-eqb _ _ n)
+
+  pub filled-all : length is ≡ 255 → rowsFilled s is room ≡ storeAt (replicate (length room) 0) 0 (rowsBytes (listIn s is))
+  unfolding rowsFilled
+  filled-all l = rw (eq-eqb _ _ l)
 
 -- ---- each function by its cases
 module _ (s is : List ℕ) (slot : ℕ) (room : List ℕ) where

@@ -29,6 +29,10 @@ abbrev pub answerBytes : Option Row → List ℕ
 answerBytes (some r) = rowBytes r
 answerBytes none = []
 
+-- 01, 1: the rows of the list in rising slot order, then zeros; the room as it was where the broadcast list is not 255 numbers
+unfoldable pub rowsFilled : List ℕ → List ℕ → List ℕ → List ℕ
+rowsFilled s is room = pick (eqb (length is) 255) (storeAt (replicate (length room) 0) 0 (rowsBytes (listIn s is))) room
+
 -- the lengths that the rows ask for: a ledger, and room for 174 rows
 abbrev pub isRows : List ℕ → List ℕ → Bool
 isRows s room = isLedger s && eqb (length room) rowsSize

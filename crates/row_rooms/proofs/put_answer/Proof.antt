@@ -1,7 +1,7 @@
 use borrow.Author.Needs.{needs}
 use Rattle.row_calls.proofs.RowsLaws.{answer-none, answer-some}
-use Rattle.quieuvodan.proofs.put_answer.Statement.{statement}
-use Rattle.quieuvodan.proofs.put_answer.Tie as tie
+use Rattle.row_rooms.proofs.put_answer.Statement.{statement}
+use Rattle.row_rooms.proofs.put_answer.Tie as tie
 
 enum-known-a : tie.Need-enum-known-a
 enum-known-a c = search needs

@@ -6,8 +6,8 @@ use Rattle.in_force.specs.Bytes.{runBytes, framesOf}
 use Rattle.verdict.specs.Verdict.{numberIn}
 use Rattle.ledger_calls.specs.Ledger.{verdictsOf}
 use Rattle.ledger_calls.proofs.ReplayLaws.{refusal-fits, replay-no, replay-yes}
-use Rattle.quieuvodan.proofs.qvd_replay.Statement.{statement}
-use Rattle.quieuvodan.proofs.qvd_replay.Tie as tie
+use Rattle.replaying.proofs.replay.Statement.{statement}
+use Rattle.replaying.proofs.replay.Tie as tie
 
 replay-refusal-requires : tie.Need-replay-refusal-requires
 replay-refusal-requires c κs = search needs
@@ -36,8 +36,8 @@ returns-2 c =
     (t .0 ∙ ap (λ (s : List ℕ). runBytes s (framesOf (a .log .now))) f)
     (t .1 ∙ ap (λ (s : List ℕ). verdictsOf numberIn s (a .log .now)) f)
 
-pub qvd-replay-spec : {M : Type 1} → statement M
-qvd-replay-spec =
+pub replay-spec : {M : Type 1} → statement M
+replay-spec =
     tie.close
     (tie.spec
     replay-refusal-requires

@@ -13,8 +13,8 @@ use Rattle.list.proofs.AnswerLaws.{found-le, row-next}
 use Rattle.answers.specs.Size.{rowSize}
 use Rattle.row_calls.specs.Rows.{rowsBytes}
 use Rattle.row_calls.proofs.RowsLaws.{rows-turn, rows-over}
-use Rattle.quieuvodan.proofs.put_rows.Statement.{statement}
-use Rattle.quieuvodan.proofs.put_rows.Tie as tie
+use Rattle.row_rooms.proofs.put_rows.Statement.{statement}
+use Rattle.row_rooms.proofs.put_rows.Tie as tie
 
 abbrev Inv-loop : tie.InvT-loop
 Inv-loop ledger issues rows₀ n₀ i₀ rows n i =

@@ -11,8 +11,8 @@ use Rattle.sheet_form.specs.Reading.{rowsSaidFrom}
 use Rattle.answers.specs.Size.{rowSize}
 use Rattle.row_calls.specs.Rows.{rowsBytes}
 use Rattle.sheet_calls.proofs.SheetLaws.{said-turn, said-over}
-use Rattle.quieuvodan.proofs.sheet.put_rows.Statement.{statement}
-use Rattle.quieuvodan.proofs.sheet.put_rows.Tie as tie
+use Rattle.sheet_rooms.proofs.put_rows.Statement.{statement}
+use Rattle.sheet_rooms.proofs.put_rows.Tie as tie
 
 abbrev Inv-loop : tie.InvT-loop
 Inv-loop rows₀ sheet n at₀ k₀ left₀ rows at k left =

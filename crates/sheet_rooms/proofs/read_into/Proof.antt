@@ -11,8 +11,8 @@ use Rattle.sheet_reading.specs.Answer.{readSays, readAnswer}
 use Rattle.sheet_reading.specs.declared.SheetRead.the-variants.{Wrong}
 use Rattle.row_calls.specs.Rows.{rowsBytes}
 use Rattle.sheet_calls.proofs.SheetLaws.{answer-near, read-header-size, read-rows-size, read-wrong, read-right}
-use Rattle.quieuvodan.proofs.sheet.qvd_read_sheet.Statement.{statement}
-use Rattle.quieuvodan.proofs.sheet.qvd_read_sheet.Tie as tie
+use Rattle.sheet_rooms.proofs.read_into.Statement.{statement}
+use Rattle.sheet_rooms.proofs.read_into.Tie as tie
 
 -- what the reader says of a sheet that is wrong
 wrong : (c : tie.After-known-told) → readSays (Wrong (c .before .a .given .0 .0)) ≡ readAnswer mostSheetRows true (c .before .before .before .before .before .before .before .before .before .args .sheet .now)
@@ -71,8 +71,8 @@ returns-4 c =
     (c .before .before .before .before .before .before .before .before .before .before .put-header .ensures)
     (c .before .before .put-rows .ensures ∙ ap (λ (x : List ℕ). storeAt x 0 (rowsBytes (rowsSaidFrom (a .sheet .now) (h .0 .0 .rows) 8))) (c .before .before .before .before .before .before .clear .ensures))
 
-pub qvd-read-sheet-spec : {M : Type 1} → statement M
-qvd-read-sheet-spec =
+pub read-into-spec : {M : Type 1} → statement M
+read-into-spec =
     tie.close
     (tie.spec
     returns

@@ -2,8 +2,8 @@ use borrow.Author.Needs.{needs}
 use mathlib.Core.Path.{sym, _∙_}
 use borrow.Author.Tests.{not-true, not-false}
 use Rattle.ledger_calls.proofs.ReplayLaws.{refusal-ledger, refusal-room, refusal-prn, refusal-none}
-use Rattle.quieuvodan.proofs.replay_refusal.Statement.{statement}
-use Rattle.quieuvodan.proofs.replay_refusal.Tie as tie
+use Rattle.replaying.proofs.replay_refusal.Statement.{statement}
+use Rattle.replaying.proofs.replay_refusal.Tie as tie
 
 returns : tie.Need-returns
 returns c = let a = c .before .args in refusal-ledger (a .ledger) (a .prn) (a .log) (a .verdicts) (c .if1 .taken)

@@ -2,8 +2,8 @@ use borrow.Author.Needs.{needs}
 use mathlib.Core.Path.{sym, ap, _∙_}
 use Rattle.row.specs.Row.{rowSays}
 use Rattle.row_calls.proofs.RowsLaws.{row-ledger, row-size, row-found, row-none}
-use Rattle.quieuvodan.proofs.qvd_row.Statement.{statement}
-use Rattle.quieuvodan.proofs.qvd_row.Tie as tie
+use Rattle.row_rooms.proofs.row.Statement.{statement}
+use Rattle.row_rooms.proofs.row.Tie as tie
 
 returns : tie.Need-returns
 returns c = let a = c .before .before .before .before .args in row-ledger (a .ledger .now) (a .issues .now) (a .slot) (a .row .now) (c .if1 .taken)
@@ -32,8 +32,8 @@ returns-3 c = let a = c .before .before .before .before .before .before .before 
 returns-4 : tie.Need-returns-4
 returns-4 c = let a = c .before .before .before .before .before .before .before .before .before .args in row-none (a .ledger .now) (a .issues .now) (a .slot) (a .row .now) _ (c .before .before .before .before .before .if1 .left) (c .before .before .before .before .if2 .left) (sym (c .before .before .before .row-of-slot .ensures) ∙ ap rowSays (c .before .a2 .given .1))
 
-pub qvd-row-spec : {M : Type 1} → statement M
-qvd-row-spec =
+pub row-spec : {M : Type 1} → statement M
+row-spec =
     tie.close
     (tie.spec
     returns

@@ -6,8 +6,8 @@ use Rattle.in_force.specs.Bytes.{runBytes, framesOf}
 use Rattle.answers.specs.Detail.{detailIn}
 use Rattle.ledger_calls.specs.Ledger.{verdictsOf}
 use Rattle.ledger_calls.proofs.ReplayLaws.{refusal-fits, replay-no, replay-yes}
-use Rattle.quieuvodan.proofs.qvd_replay_detail.Statement.{statement}
-use Rattle.quieuvodan.proofs.qvd_replay_detail.Tie as tie
+use Rattle.replaying.proofs.replay_detail.Statement.{statement}
+use Rattle.replaying.proofs.replay_detail.Tie as tie
 
 replay-refusal-requires : tie.Need-replay-refusal-requires
 replay-refusal-requires c κs = search needs
@@ -36,8 +36,8 @@ returns-2 c =
     (t .0 ∙ ap (λ (s : List ℕ). runBytes s (framesOf (a .log .now))) f)
     (t .1 ∙ ap (λ (s : List ℕ). verdictsOf detailIn s (a .log .now)) f)
 
-pub qvd-replay-detail-spec : {M : Type 1} → statement M
-qvd-replay-detail-spec =
+pub replay-detail-spec : {M : Type 1} → statement M
+replay-detail-spec =
     tie.close
     (tie.spec
     replay-refusal-requires
