@@ -37,7 +37,8 @@
  * - nothing else changes the memory during the call.
  *
  * The proofs say, for every input, exactly what is returned and what each lent
- * room then holds: crates/boundary/specs. */
+ * room then holds: crates/ledger_calls/specs, and those of row_calls,
+ * message_calls, signal_calls, sheet_calls and table_calls. */
 #ifndef QUIEUVODAN_H
 #define QUIEUVODAN_H
 
