@@ -1,9 +1,7 @@
 -- The canonical form of URA codes is its own, and what is read.
-use mathlib.Core.Path.{_≡_, ap}
-use mathlib.Core.List.{List}
+use mathlib.Core.Path.{_≡_}
 use Prim.Native.Nat.{ℕ}
 use lib.ListN.{getD, length}
-use Rattle.bits.specs.Table.{table}
 use Rattle.bits.proofs.TableLaws.{length-table, table-same}
 use Rattle.ura_codes.specs.declared.CodePart.{CodePart}
 use Rattle.canonical.specs.Canon.{canonCodes}

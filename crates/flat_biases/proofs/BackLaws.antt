@@ -12,7 +12,6 @@ use Rattle.bits.proofs.TableLaws.{table-ext, table-same}
 use Rattle.lent.proofs.DigitLaws.{pair-back, quad-back}
 use Rattle.records.proofs.SignedLaws.{signed-raw}
 use Rattle.biases.specs.Biases.{blankSat, noBias}
-use Rattle.biases.specs.declared.BiasSat.{BiasSat}
 use Rattle.biases.specs.declared.Bias.{Bias}
 use Rattle.biases.specs.declared.BiasPart.{BiasPart}
 use Rattle.ura_codes.specs.declared.CodePart.{CodePart}

@@ -11,7 +11,6 @@ use native.Mathlib.Omega.{arith}
 use borrow.Author.Tests.{eqb-true, eq-eqb}
 use Rattle.lent.proofs.ZeroLaws.{getD-zeros}
 use Rattle.bits.specs.Bits.{bitAt}
-use Rattle.bits.specs.Table.{table}
 use Rattle.bits.specs.Bytes.{storeAt, rowAt, Kept}
 use Rattle.bits.proofs.TestLaws.{both-hold}
 use Rattle.bits.proofs.TableLaws.{table-ext}

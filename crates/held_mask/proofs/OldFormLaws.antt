@@ -1,5 +1,5 @@
 -- 02, CR 13: the mask in 32 bytes is equal to the old form for every mask and every place.
-use mathlib.Core.Path.{_≡_, refl, sym, ap, _∙_}
+use mathlib.Core.Path.{_≡_, ap, _∙_}
 use mathlib.Core.Logic.{⊎-elim}
 use mathlib.Core.Bool.{Bool, true, false}
 use mathlib.Core.List.{List}
@@ -9,7 +9,6 @@ use native.Mathlib.Omega.{arith}
 use lib.Dec.{eqb}
 use lib.ListN.{getD, length, List·getD-eq-default}
 use Rattle.bits.specs.Bits.{bitAt}
-use Rattle.bits.specs.Pick.{pick}
 use Rattle.bits.specs.Table.{table}
 use Rattle.bits.proofs.TableLaws.{length-table, getD-table, table-ext, table-same}
 use Rattle.lent.specs.Digits.{flagOf}

@@ -7,7 +7,7 @@ use Prim.Native.Nat.{ℕ, _+_, _-_, _≤_, _<_}
 use native.Mathlib.Decide.{ℕ-discrete}
 use native.Mathlib.Omega.{arith}
 use lib.Dec.{eqb}
-use lib.ListN.{getD, length, drop}
+use lib.ListN.{length, drop}
 use borrow.Author.Tests.{ne-eqb}
 use Rattle.bits.specs.Pick.{pick}
 use Rattle.bits.specs.Table.{table}
@@ -19,7 +19,7 @@ use Rattle.biases.specs.Biases.{noBiases}
 use Rattle.biases.specs.declared.BiasPart.{BiasPart}
 use Rattle.ura_codes.specs.Codes.{noCodes}
 use Rattle.ura_codes.specs.declared.CodePart.{CodePart}
-use Rattle.contents.specs.Parts.{noMask, noClocks, noOrbits, contentsAt, layoutAt, endAt}
+use Rattle.contents.specs.Parts.{noMask, noClocks, noOrbits, contentsAt, endAt}
 use Rattle.contents.proofs.PartLaws.{mask-absent, clocks-absent, orbits-absent, biases-absent, codes-absent, end-layout, layout-back}
 use Rattle.contents.specs.declared.parts.MaskPart.{MaskPart}
 use Rattle.contents.specs.declared.parts.ClockPart.{ClockPart}

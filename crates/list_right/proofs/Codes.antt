@@ -1,7 +1,7 @@
 -- 02, CR 2: what a type 5 makes of the list of 01's example, computed.
 use mathlib.Core.Path.{_≡_, refl, _∙_}
 use Prim.Native.Nat.{ℕ}
-use mathlib.Core.List.{List, [], _∷_}
+use mathlib.Core.List.{[], _∷_}
 use native.Mathlib.Omega.{arith}
 use Rattle.bits.specs.Bits.{bitAt}
 use Rattle.bits.specs.Table.{table}

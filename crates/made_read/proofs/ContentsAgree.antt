@@ -5,8 +5,7 @@ use mathlib.Core.Logic.{_≢_, _⊎_, inl, inr, dite}
 use mathlib.Core.List.{List}
 use native.Mathlib.Decide.{ℕ-discrete}
 use native.Mathlib.Omega.{arith}
-use lib.Dec.{eqb}
-use borrow.Author.Tests.{eq-eqb, ne-eqb}
+use borrow.Author.Tests.{ne-eqb}
 use Rattle.bits.specs.Bits.{fieldAt}
 use Rattle.layout.specs.Layout.{endOf}
 use Rattle.layout.proofs.LayoutLaws.{layout-short as never-long}

@@ -1,6 +1,6 @@
 -- 02, CR 12: no assigned place moves.
-use mathlib.Core.Path.{_≡_, refl, sym, ap, _∙_, subst}
-use mathlib.Core.Logic.{_≢_, dite}
+use mathlib.Core.Path.{_≡_, refl, sym, _∙_}
+use mathlib.Core.Logic.{dite}
 use mathlib.Core.Bool.{Bool, true, false}
 use mathlib.Core.List.{List, [], _∷_}
 use Prim.Native.Nat.{ℕ, zero, suc, _+_, _-_, _≤_, _<_}
@@ -8,7 +8,7 @@ use native.Mathlib.Decide.{ℕ-discrete}
 use native.Mathlib.Omega.{arith}
 use lib.ListN.{take}
 use Rattle.slots.specs.Slots.{nthFrom}
-use Rattle.mask_bits.specs.NoPlaceMoves.{NoPlaceMoves, PlacesStay}
+use Rattle.mask_bits.specs.NoPlaceMoves.{PlacesStay}
 use Rattle.mask_bits.proofs.PlaceLaws.{more, one, clear, none-in, nth-from}
 
 -- where two rows agree on their first m bits, a place that has the slot of one of these in the one has it in the other

@@ -11,7 +11,7 @@ use borrow.Author.Tests.{eq-eqb, ne-eqb, lt-leb, le-leb}
 use lib.Dec.{eqb}
 use lib.ListN.{length, length-append}
 use Rattle.bits.specs.Pick.{pick}
-use Rattle.lookback.specs.Walk.{toList, rowsFrom, rows}
+use Rattle.lookback.specs.Walk.{toList, rowsFrom}
 use Rattle.lookback.proofs.WalkLaws.{rows-ext, rows-same}
 use Rattle.row.specs.Row.{rowOf, qualifies, isAssigned}
 use Rattle.row.specs.declared.Row.{Row}

@@ -1,6 +1,6 @@
 -- What was read, written again: each of the first 462 bits is that of the message read, or 0.
 use mathlib.Core.Path.{_≡_, refl, sym, ap, _∙_, subst}
-use mathlib.Core.Logic.{_≢_, dite, _⊎_, inl, inr}
+use mathlib.Core.Logic.{dite, _⊎_, inl, inr}
 use mathlib.Core.List.{List, [], _∷_}
 use Prim.Native.Nat.{ℕ, _+_, _-_, _*_, _/_, _%_, _^_, _≤_, _<_}
 use lib.Dec.{eqb}
@@ -25,7 +25,7 @@ use Rattle.canonical.proofs.CanonLaws.{layout-read}
 use Rattle.canonical.proofs.KindLaws.{Headed, headed, counted}
 use Rattle.fitting.specs.Fits.{headVals}
 use Rattle.writing.specs.Fits.{clockRow, orbitRow}
-use Rattle.biases.specs.Biases.{biasPartAt, biasEnd, noBiases}
+use Rattle.biases.specs.Biases.{biasPartAt, biasEnd}
 use Rattle.canonical_biases.specs.Canon.{biasBits}
 use Rattle.writing.specs.Write.{headPut, maskWidths, maskRow, maskPut, clocksPut, orbitsPut, biasPut, codePut, partsPut, messageOf}
 use Rattle.written_back.proofs.CheckBack.{check-beside}

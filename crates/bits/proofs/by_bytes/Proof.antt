@@ -1,21 +1,14 @@
 use borrow.Author.Needs.{needs}
 use native.Mathlib.Omega.{arith}
-use Prim.Native.Nat.{ℕ, zero, suc, _+_, _*_, _-_, _/_, _%_, _^_, _≤_, _<_}
-use mathlib.Core.Path.{_≡_, sym, ap, _∙_, refl, subst}
-use Prim.Native.Nat.{min}
+use Prim.Native.Nat.{_+_, _*_, _-_, _/_, _%_, _^_, _≤_, _<_}
+use mathlib.Core.Path.{_≡_, sym, _∙_}
 use borrow.Author.Tests.{lt-leb}
 use Rattle.bits.specs.Bits.{fieldAt}
 use Rattle.bits.proofs.FieldLaws.{got-field, field-zero}
-use Rattle.bits.proofs.ByteWise.{turn, turn-fits, moreOf}
-use lib.ListN.{getD}
+use Rattle.bits.proofs.ByteWise.{turn, turn-fits}
 use native.Mathlib.Nat.{zero-mul}
 use Rattle.bits.proofs.by_bytes.Statement.{statement}
 use Rattle.bits.proofs.by_bytes.Tie as tie
-use Rattle.bits.proofs.by_bytes.Reads as reads
-use Rattle.bits.proofs.by_bytes.Lts as lts
-use Rattle.bits.proofs.byte_at.Reads as byte-at-reads
-use Rattle.bits.proofs.least.Reads as least-reads
-use Rattle.bits.proofs.more.Reads as more-reads
 
 abbrev Inv-loop : tie.InvT-loop
 Inv-loop s at n x₀ left₀ j₀ r₀ x left j r =

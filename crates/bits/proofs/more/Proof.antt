@@ -1,13 +1,10 @@
 use borrow.Author.Needs.{needs}
 use native.Mathlib.Omega.{arith}
-use Prim.Native.Nat.{ℕ, zero, suc, _+_, _*_, _-_, _/_, _%_, _^_, _≤_, _<_}
-use mathlib.Core.Path.{_≡_, sym, ap, _∙_, refl, subst}
+use Prim.Native.Nat.{_-_}
 use lib.Pow.{pow-pos}
 use Rattle.bits.proofs.PutLaws.{shl-small}
 use Rattle.bits.proofs.more.Statement.{statement}
 use Rattle.bits.proofs.more.Tie as tie
-use Rattle.bits.proofs.more.Reads as reads
-use Rattle.bits.proofs.more.Lts as lts
 
 sub-h : tie.Need-sub-h
 sub-h c = search needs

@@ -1,13 +1,7 @@
 use borrow.Author.Needs.{needs}
-use native.Mathlib.Omega.{arith}
-use Prim.Native.Nat.{ℕ, zero, suc, _+_, _*_, _-_, _/_, _%_, _^_, _≤_, _<_}
-use mathlib.Core.Path.{_≡_, sym, ap, _∙_, refl, subst}
-use lib.ListN.{length, getD}
+use Prim.Native.Nat.{_-_}
 use Rattle.show.proofs.show_messages.Statement.{statement}
 use Rattle.show.proofs.show_messages.Tie as tie
-use Rattle.show.proofs.show_messages.Reads as reads
-use Rattle.show.proofs.show_messages.Lts as lts
-use Rattle.show.proofs.turn_message.Reads as turn-message-reads
 
 abbrev Inv-loop : tie.InvT-loop
 Inv-loop fd name state₀ done₀ left₀ state done left = Unit {0}

@@ -1,13 +1,7 @@
 use borrow.Author.Needs.{needs}
-use native.Mathlib.Omega.{arith}
-use Prim.Native.Nat.{ℕ, zero, suc, _+_, _*_, _-_, _/_, _%_, _^_, _≤_, _<_}
-use mathlib.Core.Path.{_≡_, sym, ap, _∙_, refl, subst}
-use lib.ListN.{length, getD}
+use Prim.Native.Nat.{_-_}
 use Rattle.inputs.proofs.files.all_readable.Statement.{statement}
 use Rattle.inputs.proofs.files.all_readable.Tie as tie
-use Rattle.inputs.proofs.files.all_readable.Reads as reads
-use Rattle.inputs.proofs.files.all_readable.Lts as lts
-use Rattle.inputs.proofs.files.is_readable.Reads as is-readable-reads
 
 abbrev Inv-loop : tie.InvT-loop
 Inv-loop program i count k₀ k = Unit {0}

@@ -1,15 +1,9 @@
 use borrow.Author.Needs.{needs}
-use native.Mathlib.Omega.{arith}
-use Prim.Native.Nat.{ℕ, zero, suc, _+_, _*_, _-_, _/_, _%_, _^_, _≤_, _<_}
-use mathlib.Core.Path.{_≡_, sym, ap, _∙_, refl, subst}
-use lib.ListN.{length, getD}
+use Prim.Native.Nat.{_-_}
+use mathlib.Core.Path.{_≡_}
+use lib.ListN.{length}
 use Rattle.inputs.proofs.issue_file.all_lines.Statement.{statement}
 use Rattle.inputs.proofs.issue_file.all_lines.Tie as tie
-use Rattle.inputs.proofs.issue_file.all_lines.Reads as reads
-use Rattle.inputs.proofs.issue_file.all_lines.Lts as lts
-use Rattle.inputs.proofs.issue_file.turn.Reads as turn-reads
-use Rattle.console.proofs.lines.begin.Reads as begin-reads
-use Rattle.console.proofs.lines.next_line.Reads as next-line-reads
 
 abbrev Inv-loop : tie.InvT-loop
 Inv-loop program fd name room₀ issues₀ seen₀ l₀ state₀ left₀ room issues seen l state left = length room ≡ length room₀

@@ -1,8 +1,5 @@
 use borrow.Author.Needs.{needs}
-use Prim.Native.Nat.{ℕ}
-use mathlib.Core.Path.{sym, ap, _∙_}
-use Rattle.biases.specs.declared.BiasPart.{BiasPart}
-use Rattle.judge.specs.Judge.{biasesRefusalOf}
+use mathlib.Core.Path.{sym, _∙_}
 use Rattle.judge.proofs.JudgeLaws.{biases-refusal-at}
 use Rattle.frame.specs.Frame.{contentsOf}
 use Rattle.held_mask.specs.Mask.{maskAt}

@@ -1,13 +1,7 @@
 use borrow.Author.Needs.{needs}
-use native.Mathlib.Omega.{arith}
-use Prim.Native.Nat.{ℕ, zero, suc, _+_, _*_, _-_, _/_, _%_, _^_, _≤_, _<_}
-use mathlib.Core.Path.{_≡_, sym, ap, _∙_, refl, subst}
-use lib.ListN.{length, getD}
+use Prim.Native.Nat.{_-_, _≤_}
 use Rattle.night.proofs.fit.oldest.Statement.{statement}
 use Rattle.night.proofs.fit.oldest.Tie as tie
-use Rattle.night.proofs.fit.oldest.Reads as reads
-use Rattle.night.proofs.fit.oldest.Lts as lts
-use Rattle.night.proofs.fit.age_of.Reads as age-of-reads
 
 abbrev Inv-loop : tie.InvT-loop
 Inv-loop ledger issues e most₀ i₀ most i = i ≤ 255

@@ -1,15 +1,7 @@
 use borrow.Author.Needs.{needs}
-use native.Mathlib.Omega.{arith}
-use Prim.Native.Nat.{ℕ, zero, suc, _+_, _*_, _-_, _/_, _%_, _^_, _≤_, _<_}
-use mathlib.Core.Path.{_≡_, sym, ap, _∙_, refl, subst}
-use lib.ListN.{length, getD}
+use Prim.Native.Nat.{_-_}
 use Rattle.night.proofs.options.options_from.Statement.{statement}
 use Rattle.night.proofs.options.options_from.Tie as tie
-use Rattle.night.proofs.options.options_from.Reads as reads
-use Rattle.night.proofs.options.options_from.Lts as lts
-use Rattle.night.proofs.options.agreeing.Reads as agreeing-reads
-use Rattle.night.proofs.options.next_option.Reads as next-option-reads
-use Rattle.night.proofs.options.no_options.Reads as no-options-reads
 
 abbrev Inv-loop : tie.InvT-loop
 Inv-loop first count o₀ more₀ left₀ o more left = Unit {0}

@@ -1,13 +1,7 @@
 use borrow.Author.Needs.{needs}
-use native.Mathlib.Omega.{arith}
-use Prim.Native.Nat.{ℕ, zero, suc, _+_, _*_, _-_, _/_, _%_, _^_, _≤_, _<_}
-use mathlib.Core.Path.{_≡_, sym, ap, _∙_, refl, subst}
-use lib.ListN.{length, getD}
+use Prim.Native.Nat.{_-_, _≤_}
 use Rattle.pack.proofs.cursor.nth_word.Statement.{statement}
 use Rattle.pack.proofs.cursor.nth_word.Tie as tie
-use Rattle.pack.proofs.cursor.nth_word.Reads as reads
-use Rattle.pack.proofs.cursor.nth_word.Lts as lts
-use Rattle.console.proofs.words.next_word.Reads as next-word-reads
 
 abbrev Inv-loop : tie.InvT-loop
 Inv-loop s k w₀ i₀ w i = i ≤ k

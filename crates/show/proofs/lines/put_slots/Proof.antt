@@ -1,15 +1,11 @@
 use Rattle.io.proofs.Counting.{counts}
 use borrow.Author.Needs.{needs}
 use native.Mathlib.Omega.{arith}
-use Prim.Native.Nat.{ℕ, zero, suc, _+_, _*_, _-_, _/_, _%_, _^_, _≤_, _<_}
-use mathlib.Core.Path.{_≡_, sym, ap, _∙_, refl, subst}
-use lib.ListN.{length, getD}
+use Prim.Native.Nat.{_-_, _≤_}
+use mathlib.Core.Path.{_≡_}
+use lib.ListN.{length}
 use Rattle.show.proofs.lines.put_slots.Statement.{statement}
 use Rattle.show.proofs.lines.put_slots.Tie as tie
-use Rattle.show.proofs.lines.put_slots.Reads as reads
-use Rattle.show.proofs.lines.put_slots.Lts as lts
-use Rattle.show.proofs.lines.put_slot.Reads as put-slot-reads
-use Rattle.console.proofs.put.cursor_in.Reads as cursor-in-reads
 
 abbrev Inv-loop : tie.InvT-loop
 Inv-loop room₀ at bytes n₀ i₀ room n i = (length room ≡ length room₀) × (n ≤ length room) × (i ≤ 255)
