@@ -134,6 +134,50 @@ pub fn put_ura(room: &mut [u8], at: usize, u: Ura) -> usize
     }
 }
 
+// Number i, from 0; 0 where there is none.
+fn nth_number(numbers: &[u64], i: u8) -> u64 {
+    let k = i as usize;
+    if k < numbers.len() {
+        return numbers[k];
+    }
+    0
+}
+
+// How many marks there were after a byte.
+fn marks_after(marks: u8, b: u8) -> u8 {
+    if b == b'#' {
+        if marks < 255 {
+            return marks + 1;
+        }
+    }
+    marks
+}
+
+// A byte, or a number where the byte is the mark #.
+fn put_marked(room: &mut [u8], at: usize, b: u8, x: u64) -> usize
+    ensures { λ r. ⌜ Counts r (now (room .exit)) ⌝ }
+{
+    if b == b'#' {
+        return put_number(room, at, x);
+    }
+    put_byte(room, at, b)
+}
+
+// A text with the next of some numbers for each mark # in it.
+pub fn put_text(room: &mut [u8], at: usize, text: &[u8], numbers: &[u64]) -> usize
+    ensures { λ r. ⌜ Counts r (now (room .exit)) ⌝ }
+{
+    let mut n = cursor_in(room, at);
+    let mut marks: u8 = 0;
+    let mut i: usize = 0;
+    while i < text.len() {
+        n = put_marked(room, n, text[i], nth_number(numbers, marks));
+        marks = marks_after(marks, text[i]);
+        i += 1;
+    }
+    n
+}
+
 // A word and a number, each after a blank.
 pub fn put_field(room: &mut [u8], at: usize, word: &[u8], x: u64) -> usize
     ensures { λ r. ⌜ Counts r (now (room .exit)) ⌝ }
