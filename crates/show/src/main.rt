@@ -1,5 +1,7 @@
 // show [-f] FILE: one line for each message of 61 bytes, or for each frame of 125.
-mod late;
+mod entries;
+mod entry;
+mod heads;
 mod lines;
 
 use console::args::Args;
@@ -7,9 +9,8 @@ use console::args::own;
 use console::args::own_count;
 use console::args::own_is;
 use console::put::put_byte;
-use console::put::put_bytes;
 use console::put::put_detail;
-use console::put::put_number;
+use console::put::put_text;
 use console::turns::ENDED;
 use console::turns::NOTHING;
 use console::turns::WRITTEN;
@@ -32,29 +33,19 @@ fn write_line(line: &[u8]) -> u8 {
 // The line of a refusal.
 fn write_refused(v: Verdict) -> u8 {
     let mut room = [0u8; 60];
-    let a = put_bytes(&mut room, 0, b"refused ");
-    let b = put_number(&mut room, a, number_of(v) as u64);
-    let d = put_detail(&mut room, b, v);
-    let k = put_byte(&mut room, d, 10);
+    let numbers = [number_of(v) as u64];
+    let a = put_text(&mut room, 0, b"refused #", &numbers);
+    let b = put_detail(&mut room, a, v);
+    let k = put_byte(&mut room, b, 10);
     write_line(&room[..k])
 }
 
-// The line of a message.
-fn write_message(c: Contents) -> u8 {
+// The line of a message; that of a frame's message begins with its PRN.
+fn write_contents(text: &[u8], prn: u8, c: Contents) -> u8 {
     let mut room = io::buffer();
-    let a = lines::put_contents(&mut room, 0, c);
-    let k = put_byte(&mut room, a, 10);
-    write_line(&room[..k])
-}
-
-// The line of a frame's message, which begins with its PRN.
-fn write_frame(prn: u8, c: Contents) -> u8 {
-    let mut room = io::buffer();
-    let a = put_bytes(&mut room, 0, b"prn ");
-    let b = put_number(&mut room, a, prn as u64);
-    let d = put_byte(&mut room, b, b' ');
-    let e = lines::put_contents(&mut room, d, c);
-    let k = put_byte(&mut room, e, 10);
+    let numbers = [prn as u64];
+    let a = put_text(&mut room, 0, text, &numbers);
+    let k = lines::put_contents(&mut room, a, c);
     write_line(&room[..k])
 }
 
@@ -64,7 +55,7 @@ fn show_message(s: &[u8]) -> u8 {
     let v = r.verdict;
     if number_of(v) == 0 {
         let c = r.contents;
-        return write_message(c);
+        return write_contents(b"", 0, c);
     }
     write_refused(v)
 }
@@ -75,7 +66,7 @@ fn show_frame(s: &[u8]) -> u8 {
     let v = r.verdict;
     if number_of(v) == 0 {
         let c = r.contents;
-        return write_frame(frame::prn_of(s), c);
+        return write_contents(b"prn # ", frame::prn_of(s), c);
     }
     write_refused(v)
 }
@@ -107,66 +98,59 @@ fn message_at(name: &[u8], done: u64, s: &[u8]) -> u8 {
     show_message(s)
 }
 
-// The next message of a file.
-fn turn_message(fd: i32, name: &[u8], done: u64) -> u8 {
-    let mut room = [0u8; 61];
-    let p = console::input::fill(fd, &mut room);
-    if p.failed {
-        return say_failed(name, done);
-    }
-    let n = p.count;
-    if n == 0 {
+// The message or the frame at an offset.
+fn show_bytes(name: &[u8], done: u64, s: &[u8], frames: bool) -> u8 {
+    if s.len() == 0 {
         return ENDED;
     }
-    message_at(name, done, &room[..n])
-}
-
-// The next frame of a file.
-fn turn_frame(fd: i32, name: &[u8], done: u64) -> u8 {
-    let mut room = [0u8; 125];
-    let p = console::input::fill(fd, &mut room);
-    if p.failed {
-        return say_failed(name, done);
-    }
-    let n = p.count;
-    if n == 0 {
-        return ENDED;
-    }
-    show_frame(&room[..n])
-}
-
-// All frames of a file, and how the reading ended.
-fn show_frames(fd: i32, name: &[u8]) -> u8 {
-    let mut state = NOTHING;
-    let mut done: u64 = 0;
-    let mut left: u64 = 100000000000000000;
-    while left > 0 && state < ENDED {
-        state = turn_frame(fd, name, done);
-        done = done % 10000000000000000000 + 125;
-        left -= 1;
-    }
-    state
-}
-
-// All messages of a file, and how the reading ended.
-fn show_messages(fd: i32, name: &[u8]) -> u8 {
-    let mut state = NOTHING;
-    let mut done: u64 = 0;
-    let mut left: u64 = 100000000000000000;
-    while left > 0 && state < ENDED {
-        state = turn_message(fd, name, done);
-        done = done % 10000000000000000000 + 61;
-        left -= 1;
-    }
-    state
-}
-
-// All frames or messages of a file; the status.
-fn show_all(fd: i32, name: &[u8], frames: bool) -> u8 {
     if frames {
-        return status_of(show_frames(fd, name));
+        return show_frame(s);
     }
-    status_of(show_messages(fd, name))
+    message_at(name, done, s)
+}
+
+// How many bytes a message or a frame has.
+fn size_of(frames: bool) -> u8 {
+    if frames { 125 } else { 61 }
+}
+
+// The next message or frame of a file, in a room of its size.
+fn turn_in(room: &mut [u8], fd: i32, name: &[u8], done: u64, frames: bool) -> u8 {
+    let p = console::input::fill(fd, room);
+    if p.failed {
+        return say_failed(name, done);
+    }
+    let n = p.count;
+    show_bytes(name, done, &room[..n], frames)
+}
+
+// The next message or frame of a file.
+fn turn(fd: i32, name: &[u8], done: u64, frames: bool) -> u8 {
+    if frames {
+        let mut frame = [0u8; 125];
+        return turn_in(&mut frame, fd, name, done, true);
+    }
+    let mut message = [0u8; 61];
+    turn_in(&mut message, fd, name, done, false)
+}
+
+// All messages or frames of a file, and how the reading ended.
+fn show_turns(fd: i32, name: &[u8], frames: bool) -> u8 {
+    let size = size_of(frames) as u64;
+    let mut state = NOTHING;
+    let mut done: u64 = 0;
+    let mut left: u64 = 100000000000000000;
+    while left > 0 && state < ENDED {
+        state = turn(fd, name, done, frames);
+        done = done % 10000000000000000000 + size;
+        left -= 1;
+    }
+    state
+}
+
+// All messages or frames of a file; the status.
+fn show_all(fd: i32, name: &[u8], frames: bool) -> u8 {
+    status_of(show_turns(fd, name, frames))
 }
 
 // The file of a name; - is standard input.

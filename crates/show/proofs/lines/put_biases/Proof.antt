@@ -4,14 +4,14 @@ use native.Mathlib.Omega.{arith}
 use Prim.Native.Nat.{_-_, _≤_}
 use mathlib.Core.Path.{_≡_}
 use lib.ListN.{length}
-use Rattle.show.proofs.lines.put_slots.Statement.{statement}
-use Rattle.show.proofs.lines.put_slots.Tie as tie
+use Rattle.show.proofs.lines.put_biases.Statement.{statement}
+use Rattle.show.proofs.lines.put_biases.Tie as tie
 
 abbrev Inv-loop : tie.InvT-loop
-Inv-loop room₀ at bytes n₀ i₀ room n i = (length room ≡ length room₀) × (n ≤ length room) × (i ≤ 255)
+Inv-loop room₀ at bs from count n₀ i₀ room n i = (length room ≡ length room₀) × (n ≤ length room) × (i ≤ count)
 
 abbrev μ-loop : tie.MeasureT-loop
-μ-loop room₀ at bytes n₀ i₀ room n i = 255 - i
+μ-loop room₀ at bs from count n₀ i₀ room n i = count - i
 
 cursor-in-requires : tie.Need-cursor-in-requires Inv-loop μ-loop
 cursor-in-requires c κs = search needs
@@ -19,14 +19,17 @@ cursor-in-requires c κs = search needs
 loop-holds : tie.Need-loop-holds Inv-loop μ-loop
 loop-holds c = search needs
 
-add-put-slot : tie.Need-add-put-slot Inv-loop μ-loop
-add-put-slot c = search needs
+cast-bias-entry : tie.Need-cast-bias-entry Inv-loop μ-loop
+cast-bias-entry c = search needs
 
-is-set-requires : tie.Need-is-set-requires Inv-loop μ-loop
-is-set-requires c κs = search needs
+add-bias-entry : tie.Need-add-bias-entry Inv-loop μ-loop
+add-bias-entry c = search needs
 
-put-slot-requires : tie.Need-put-slot-requires Inv-loop μ-loop
-put-slot-requires c κs = search needs
+bias-entry-requires : tie.Need-bias-entry-requires Inv-loop μ-loop
+bias-entry-requires c κs = search needs
+
+put-entry-requires : tie.Need-put-entry-requires Inv-loop μ-loop
+put-entry-requires c κs = search needs
 
 add-i : tie.Need-add-i Inv-loop μ-loop
 add-i c = search needs
@@ -43,17 +46,18 @@ same-length c = search needs
 returns : tie.Need-returns Inv-loop μ-loop
 returns c = counts _ _ (omega arith)
 
-pub put-slots-spec : {M : Type 1} → statement M
-put-slots-spec =
+pub put-biases-spec : {M : Type 1} → statement M
+put-biases-spec =
     tie.close
     (tie.spec
     Inv-loop
     μ-loop
     cursor-in-requires
     loop-holds
-    add-put-slot
-    is-set-requires
-    put-slot-requires
+    cast-bias-entry
+    add-bias-entry
+    bias-entry-requires
+    put-entry-requires
     add-i
     loop-less
     loop-again

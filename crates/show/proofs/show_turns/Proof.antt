@@ -1,19 +1,25 @@
 use borrow.Author.Needs.{needs}
-use Prim.Native.Nat.{_-_}
-use Rattle.show.proofs.show_frames.Statement.{statement}
-use Rattle.show.proofs.show_frames.Tie as tie
+use Prim.Native.Nat.{_≤_}
+use Rattle.show.proofs.show_turns.Statement.{statement}
+use Rattle.show.proofs.show_turns.Tie as tie
 
 abbrev Inv-loop : tie.InvT-loop
-Inv-loop fd name state₀ done₀ left₀ state done left = Unit {0}
+Inv-loop fd name frames size state₀ done₀ left₀ state done left = size ≤ 255
 
 abbrev μ-loop : tie.MeasureT-loop
-μ-loop fd name state₀ done₀ left₀ state done left = left
+μ-loop fd name frames size state₀ done₀ left₀ state done left = left
+
+size-of-requires : tie.Need-size-of-requires Inv-loop μ-loop
+size-of-requires c κs = search needs
+
+cast-size : tie.Need-cast-size Inv-loop μ-loop
+cast-size c = search needs
 
 loop-holds : tie.Need-loop-holds Inv-loop μ-loop
 loop-holds c = search needs
 
-turn-frame-requires : tie.Need-turn-frame-requires Inv-loop μ-loop
-turn-frame-requires c κs = search needs
+turn-requires : tie.Need-turn-requires Inv-loop μ-loop
+turn-requires c κs = search needs
 
 add-done : tie.Need-add-done Inv-loop μ-loop
 add-done c = search needs
@@ -33,14 +39,16 @@ returns c = search needs
 returns-2 : tie.Need-returns-2 Inv-loop μ-loop
 returns-2 c = search needs
 
-pub show-frames-spec : {M : Type 1} → statement M
-show-frames-spec =
+pub show-turns-spec : {M : Type 1} → statement M
+show-turns-spec =
     tie.close
     (tie.spec
     Inv-loop
     μ-loop
+    size-of-requires
+    cast-size
     loop-holds
-    turn-frame-requires
+    turn-requires
     add-done
     sub-left
     loop-less
