@@ -47,6 +47,29 @@ fn clock_of(w: &[u8], slotted: bool) -> ClockWord {
     bare_clock(w)
 }
 
+// What is expected where there is no such record.
+fn fault_of(slotted: bool) -> u8 {
+    if slotted { SLOT_CLOCK } else { CLOCK }
+}
+
+// The clock record of a word that ends at a position.
+fn clock_in(w: &[u8], p: Cursor, to: usize, slotted: bool) -> ClockGot {
+    if !is_record(w) {
+        return no_clock(p);
+    }
+    let c = clock_of(w, slotted);
+    if !c.good {
+        return no_clock(failed(p, fault_of(slotted)));
+    }
+    let cursor = passed(p, to);
+    let clock = c.clock;
+    ClockGot {
+        cursor,
+        more: true,
+        clock,
+    }
+}
+
 // The next clock record.
 fn clock_word(s: &[u8], p: Cursor, slotted: bool) -> ClockGot {
     if p.fault != 0 {
@@ -55,21 +78,7 @@ fn clock_word(s: &[u8], p: Cursor, slotted: bool) -> ClockGot {
     let w = next_word(s, p.at);
     let a = w.from;
     let b = w.to;
-    if !is_record(&s[a..b]) {
-        return no_clock(p);
-    }
-    let c = clock_of(&s[a..b], slotted);
-    if !c.good {
-        let fault = if slotted { SLOT_CLOCK } else { CLOCK };
-        return no_clock(failed(p, fault));
-    }
-    let cursor = passed(p, b);
-    let clock = c.clock;
-    ClockGot {
-        cursor,
-        more: true,
-        clock,
-    }
+    clock_in(&s[a..b], p, b, slotted)
 }
 
 // The records with one more; one past the 23rd is not held.
@@ -112,9 +121,8 @@ fn read_clocks(s: &[u8], from: Cursor, slotted: bool, most: u8) -> ClockList {
 // The clock records of a part: its key, then so many at least and at most.
 pub(crate) fn clock_list(s: &[u8], p: Cursor, slotted: bool, least: u8, most: u8) -> ClockList {
     let c = read_clocks(s, key(s, p, CLOCKS), slotted, most);
-    let fault = if slotted { SLOT_CLOCK } else { CLOCK };
     let after = c.cursor;
-    let cursor = at_least(after, c.count, least, fault);
+    let cursor = at_least(after, c.count, least, fault_of(slotted));
     let clocks = c.clocks;
     ClockList {
         cursor,

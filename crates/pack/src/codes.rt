@@ -6,6 +6,7 @@ use crate::cursor::URAS;
 use crate::cursor::byte_of;
 use crate::cursor::failed;
 use crate::cursor::key;
+use crate::cursor::no_number;
 use crate::cursor::passed;
 use crate::fields::ura_of;
 use console::words::next_word;
@@ -19,18 +20,14 @@ pub(crate) struct CodeList {
 // The next accuracy index as its code; quarters that no code gives are 64, which no field holds.
 fn code_word(s: &[u8], p: Cursor) -> Got {
     if p.fault != 0 {
-        return Got {
-            cursor: p,
-            value: 0,
-        };
+        return no_number(p);
     }
     let w = next_word(s, p.at);
     let a = w.from;
     let b = w.to;
     let u = ura_of(&s[a..b]);
     if !u.good {
-        let cursor = failed(p, URA);
-        return Got { cursor, value: 0 };
+        return no_number(failed(p, URA));
     }
     let ura = u.ura;
     let value = ura::code_of(ura) as u32;

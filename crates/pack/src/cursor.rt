@@ -1,8 +1,7 @@
 // Where the reading of a line stands, and what was expected where it failed.
 ghost use Rattle.io.specs.Counts.{Counts};
-use console::put::put_bytes;
+use console::refusals::put_line;
 use console::words::Number;
-use console::words::Word;
 use console::words::next_word;
 use console::words::number_of;
 
@@ -19,7 +18,7 @@ pub(crate) struct Got {
     pub value: u32,
 }
 
-// The keys, by their number in the text of put_key.
+// The keys, by their lines in the text of put_key, and behind them what else can be expected, as put_expected says it.
 pub(crate) const TYPE: u8 = 1;
 
 pub(crate) const EPOCH: u8 = 2;
@@ -52,22 +51,21 @@ pub(crate) const BIASES: u8 = 15;
 
 pub(crate) const URAS: u8 = 16;
 
-// What else can be expected.
-pub(crate) const NUMBER: u8 = 21;
+pub(crate) const NUMBER: u8 = 17;
 
-pub(crate) const CLOCK: u8 = 22;
+pub(crate) const CLOCK: u8 = 18;
 
-pub(crate) const SLOT_CLOCK: u8 = 23;
+pub(crate) const SLOT_CLOCK: u8 = 19;
 
-pub(crate) const ORBIT: u8 = 24;
+pub(crate) const ORBIT: u8 = 20;
 
-pub(crate) const SLOT: u8 = 25;
+pub(crate) const SLOT: u8 = 21;
 
-pub(crate) const LINE_END: u8 = 26;
+pub(crate) const LINE_END: u8 = 22;
 
-pub(crate) const SAT: u8 = 27;
+pub(crate) const SAT: u8 = 23;
 
-pub(crate) const URA: u8 = 28;
+pub(crate) const URA: u8 = 24;
 
 // The start of a line.
 pub(crate) fn start() -> Cursor {
@@ -97,69 +95,38 @@ pub(crate) fn passed(p: Cursor, to: usize) -> Cursor {
     }
 }
 
-// The k-th word of a text, from 1.
-fn nth_word(s: &[u8], k: u8) -> Word {
-    let mut w = Word { from: 0, to: 0 };
-    let mut i: u8 = 0;
-    while i < k {
-        let next = next_word(s, w.to);
-        w = next;
-        i += 1;
-    }
-    w
-}
-
-// The k-th word of a text, from 1, is put.
-fn put_nth(room: &mut [u8], at: usize, s: &[u8], k: u8) -> usize
-    ensures { λ r. ⌜ Counts r (now (room .exit)) ⌝ }
-{
-    let w = nth_word(s, k);
-    let z = next_word(s, w.from);
-    let a = z.from;
-    let b = z.to;
-    put_bytes(room, at, &s[a..b])
-}
-
 // A key of the lines.
 fn put_key(room: &mut [u8], at: usize, k: u8) -> usize
     ensures { λ r. ⌜ Counts r (now (room .exit)) ⌝ }
 {
-    put_nth(
+    put_line(
         room,
         at,
-        b"type epoch ssr iodp slots orbits sub clocks clock-epoch clock-ssr from orbit-epoch orbit-ssr prn biases uras",
+        b"type\nepoch\nssr\niodp\nslots\norbits\nsub\nclocks\nclock-epoch\nclock-ssr\nfrom\norbit-epoch\norbit-ssr\nprn\nbiases\nuras\n",
         k,
     )
-}
-
-// What was expected of types 3 and 5, or a key.
-fn put_more(room: &mut [u8], at: usize, fault: u8) -> usize
-    ensures { λ r. ⌜ Counts r (now (room .exit)) ⌝ }
-{
-    match fault {
-        SAT => put_bytes(
-            room,
-            at,
-            b"a slot with its modes and biases, such as 19/1/-120/4/33, or -",
-        ),
-        URA => put_bytes(room, at, b"unknown, quarter millimetres, or above"),
-        _ => put_key(room, at, fault),
-    }
 }
 
 // What was expected, in words.
 pub(crate) fn put_expected(room: &mut [u8], at: usize, fault: u8) -> usize
     ensures { λ r. ⌜ Counts r (now (room .exit)) ⌝ }
 {
-    match fault {
-        NUMBER => put_bytes(room, at, b"a number"),
-        CLOCK => put_bytes(room, at, b"a clock, such as 1/7"),
-        SLOT_CLOCK => put_bytes(room, at, b"a clock with its slot, such as 19/1/7, or -"),
-        ORBIT => put_bytes(room, at, b"an orbit, such as 19/37/2/100/-50/20/59, or -"),
-        SLOT => put_bytes(room, at, b"a slot above the one before, up to 255"),
-        LINE_END => put_bytes(room, at, b"the end of the line"),
-        _ => put_more(room, at, fault),
+    if fault < NUMBER {
+        return put_key(room, at, fault);
     }
+    put_line(
+        room,
+        at,
+        b"a number\n\
+        a clock, such as 1/7\n\
+        a clock with its slot, such as 19/1/7, or -\n\
+        an orbit, such as 19/37/2/100/-50/20/59, or -\n\
+        a slot above the one before, up to 255\n\
+        the end of the line\n\
+        a slot with its modes and biases, such as 19/1/-120/4/33, or -\n\
+        unknown, quarter millimetres, or above\n",
+        fault - URAS,
+    )
 }
 
 // Whether a word is a key.
@@ -189,21 +156,22 @@ pub(crate) fn key(s: &[u8], p: Cursor, k: u8) -> Cursor {
     failed(p, k)
 }
 
+// No number.
+pub(crate) fn no_number(cursor: Cursor) -> Got {
+    Got { cursor, value: 0 }
+}
+
 // A number is read.
 fn number_word(s: &[u8], p: Cursor) -> Got {
     if p.fault != 0 {
-        return Got {
-            cursor: p,
-            value: 0,
-        };
+        return no_number(p);
     }
     let w = next_word(s, p.at);
     let a = w.from;
     let b = w.to;
     let n = number_of(&s[a..b]);
     let Number::Value(value) = n else {
-        let cursor = failed(p, NUMBER);
-        return Got { cursor, value: 0 };
+        return no_number(failed(p, NUMBER));
     };
     let cursor = passed(p, b);
     Got { cursor, value }

@@ -1,9 +1,8 @@
 // What is wrong with a line.
 use crate::cursor::Cursor;
 use crate::cursor::put_expected;
-use console::put::put_bytes;
 use console::put::put_found;
-use console::put::put_number;
+use console::put::put_text;
 use console::refusals::put_refusal;
 use console::turns::Pass;
 use console::words::next_word;
@@ -27,22 +26,20 @@ pub(crate) fn say_line(name: &[u8], p: Pass, frames: bool, what: &[u8]) -> u8 {
 // What a line says is refused.
 pub(crate) fn say_refused(name: &[u8], p: Pass, frames: bool, n: u8) -> u8 {
     let mut room = [0u8; 120];
-    let a = put_bytes(&mut room, 0, b"refused ");
-    let b = put_number(&mut room, a, n as u64);
-    let c = put_bytes(&mut room, b, b": ");
-    let d = put_refusal(&mut room, c, n);
-    say_line(name, p, frames, &room[..d])
+    let numbers = [n as u64];
+    let a = put_text(&mut room, 0, b"refused #: ", &numbers);
+    let k = put_refusal(&mut room, a, n);
+    say_line(name, p, frames, &room[..k])
 }
 
 // A line is malformed, with a word of it.
 fn say_word(name: &[u8], p: Pass, frames: bool, c: Cursor, word: &[u8]) -> u8 {
     let mut room = [0u8; 160];
-    let a = put_bytes(&mut room, 0, b"word ");
-    let b = put_number(&mut room, a, c.word as u64);
-    let d = put_bytes(&mut room, b, b": expected ");
-    let e = put_expected(&mut room, d, c.fault);
-    let f = put_found(&mut room, e, word);
-    say_line(name, p, frames, &room[..f])
+    let numbers = [c.word as u64];
+    let a = put_text(&mut room, 0, b"word #: expected ", &numbers);
+    let b = put_expected(&mut room, a, c.fault);
+    let k = put_found(&mut room, b, word);
+    say_line(name, p, frames, &room[..k])
 }
 
 // A line is malformed: what was expected at which word, and the word that was found.

@@ -36,6 +36,24 @@ fn no_orbit(cursor: Cursor) -> OrbitGot {
     }
 }
 
+// The orbit record of a word that ends at a position.
+fn orbit_in(w: &[u8], p: Cursor, to: usize) -> OrbitGot {
+    if !is_record(w) {
+        return no_orbit(p);
+    }
+    let o = orbit(w);
+    if !o.good {
+        return no_orbit(failed(p, ORBIT));
+    }
+    let cursor = passed(p, to);
+    let orbit = o.orbit;
+    OrbitGot {
+        cursor,
+        more: true,
+        orbit,
+    }
+}
+
 // The next orbit record.
 fn orbit_word(s: &[u8], p: Cursor) -> OrbitGot {
     if p.fault != 0 {
@@ -44,20 +62,7 @@ fn orbit_word(s: &[u8], p: Cursor) -> OrbitGot {
     let w = next_word(s, p.at);
     let a = w.from;
     let b = w.to;
-    if !is_record(&s[a..b]) {
-        return no_orbit(p);
-    }
-    let o = orbit(&s[a..b]);
-    if !o.good {
-        return no_orbit(failed(p, ORBIT));
-    }
-    let cursor = passed(p, b);
-    let orbit = o.orbit;
-    OrbitGot {
-        cursor,
-        more: true,
-        orbit,
-    }
+    orbit_in(&s[a..b], p, b)
 }
 
 // The records with one more; one past the sixth is not held.

@@ -106,6 +106,9 @@ fn no_sat(cursor: Cursor, biases: [Bias; 25]) -> SatGot {
 
 // The satellite of a word that ends at a position, with its biases held from entry used on.
 fn sat_of(w: &[u8], p: Cursor, to: usize, bs: [Bias; 25], used: usize) -> SatGot {
+    if !is_record(w) {
+        return no_sat(p, bs);
+    }
     let cursor = passed(p, to);
     if same(w, b"-") {
         let sat = blank_sat();
@@ -142,9 +145,6 @@ fn sat_word(s: &[u8], p: Cursor, bs: [Bias; 25], used: usize) -> SatGot {
     let w = next_word(s, p.at);
     let a = w.from;
     let b = w.to;
-    if !is_record(&s[a..b]) {
-        return no_sat(p, bs);
-    }
     sat_of(&s[a..b], p, b, bs, used)
 }
 

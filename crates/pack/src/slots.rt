@@ -3,6 +3,7 @@ use crate::cursor::Cursor;
 use crate::cursor::Got;
 use crate::cursor::SLOT;
 use crate::cursor::failed;
+use crate::cursor::no_number;
 use crate::cursor::passed;
 use console::words::Number;
 use console::words::next_word;
@@ -14,34 +15,31 @@ pub(crate) struct SlotList {
     pub bytes: [u8; 32],
 }
 
+// The slot of a word that ends at a position; 0 where there is none, or it is not above the last.
+fn slot_in(w: &[u8], p: Cursor, to: usize, last: u32) -> Got {
+    if w.len() == 0 {
+        return no_number(p);
+    }
+    let n = number_of(w);
+    let Number::Value(v) = n else {
+        return no_number(failed(p, SLOT));
+    };
+    if v <= last {
+        return no_number(failed(p, SLOT));
+    }
+    let cursor = passed(p, to);
+    Got { cursor, value: v }
+}
+
 // The next slot of a mask; 0 at the end of the line or where it is not above the last.
 fn slot_word(s: &[u8], p: Cursor, last: u32) -> Got {
     if p.fault != 0 {
-        return Got {
-            cursor: p,
-            value: 0,
-        };
+        return no_number(p);
     }
     let w = next_word(s, p.at);
     let a = w.from;
     let b = w.to;
-    if a == b {
-        return Got {
-            cursor: p,
-            value: 0,
-        };
-    }
-    let n = number_of(&s[a..b]);
-    let Number::Value(v) = n else {
-        let cursor = failed(p, SLOT);
-        return Got { cursor, value: 0 };
-    };
-    if v <= last {
-        let cursor = failed(p, SLOT);
-        return Got { cursor, value: 0 };
-    }
-    let cursor = passed(p, b);
-    Got { cursor, value: v }
+    slot_in(&s[a..b], p, b, last)
 }
 
 // The mask with the bit of a slot set too.
