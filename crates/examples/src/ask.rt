@@ -2,7 +2,7 @@
 use crate::cases::opened;
 use crate::cases::take_next;
 use crate::say::say;
-use crate::say::say_number;
+use crate::say::say_text;
 use crate::sheet::say_sheets;
 use ledger::Ledger;
 use list::rows::row_at;
@@ -29,51 +29,60 @@ fn say_answer(a: RowAnswer) {
     match a {
         RowAnswer::Found(row) => {
             let slot = row.slot;
-            say(b": slot ");
-            say_number(slot.0 as u64);
+            let numbers = [slot.0 as u64];
+            say_text(b": slot #\n", &numbers);
         }
         RowAnswer::Refused(n) => {
-            say(b": ");
-            say_number(n as u64);
+            let numbers = [n as u64];
+            say_text(b": #\n", &numbers);
         }
     }
-    say(b"\n");
 }
 
 // Asks for the row at a position.
 fn ask_at(text: &[u8], ledger: &[u8], issues: &[u16], n: u16) {
-    say(text);
-    say_number(n as u64);
+    let numbers = [n as u64];
+    say_text(text, &numbers);
     say_answer(row_at(ledger, issues, n));
 }
 
 // Asks for the row of a slot.
 fn ask_slot(text: &[u8], ledger: &[u8], issues: &[u16], slot: u16) {
-    say(text);
-    say_number(slot as u64);
+    let numbers = [slot as u64];
+    say_text(text, &numbers);
     say_answer(row_of_slot(ledger, issues, slot));
 }
 
-// Asks with good issues.
-fn ask_good(ledger: &[u8], good: &[u16]) {
-    ask_at(b"  row ", ledger, good, 0);
-    ask_at(b"  row ", ledger, good, 1);
-    ask_at(b"  row ", ledger, good, 2);
-    ask_slot(b"  slot ", ledger, good, 0);
-    ask_slot(b"  slot ", ledger, good, 19);
-    ask_slot(b"  slot ", ledger, good, 64);
-    ask_slot(b"  slot ", ledger, good, 255);
-    ask_slot(b"  slot ", ledger, good, 256);
+// Asks for rows by position.
+fn ask_rows(ledger: &[u8], good: &[u16]) {
+    let text = b"  row #";
+    ask_at(text, ledger, good, 0);
+    ask_at(text, ledger, good, 1);
+    ask_at(text, ledger, good, 2);
 }
 
-// Asks with issues that are too few, or ill.
-fn ask_ill(ledger: &[u8]) {
+// Asks for rows by slot.
+fn ask_slots(ledger: &[u8], good: &[u16]) {
+    let text = b"  slot #";
+    ask_slot(text, ledger, good, 0);
+    ask_slot(text, ledger, good, 19);
+    ask_slot(text, ledger, good, 64);
+    ask_slot(text, ledger, good, 255);
+    ask_slot(text, ledger, good, 256);
+}
+
+// Asks with too few issues.
+fn ask_few(ledger: &[u8]) {
     let few = [65535u16; 254];
+    ask_slot(b"  254 issues, slot #", ledger, &few, 256);
+}
+
+// Asks with ill issues.
+fn ask_ill(ledger: &[u8]) {
     let ill = ill_issues();
-    ask_slot(b"  254 issues, slot ", ledger, &few, 256);
-    ask_slot(b"  an issue of 1024, slot ", ledger, &ill, 256);
-    ask_slot(b"  an issue of 1024, slot ", ledger, &ill, 64);
-    ask_at(b"  an issue of 1024, row ", ledger, &ill, 0);
+    ask_slot(b"  an issue of 1024, slot #", ledger, &ill, 256);
+    ask_slot(b"  an issue of 1024, slot #", ledger, &ill, 64);
+    ask_at(b"  an issue of 1024, row #", ledger, &ill, 0);
 }
 
 // The ledger after the first three frames of a file.
@@ -97,7 +106,9 @@ pub(crate) fn asked() {
     libc::close(file);
     let good = issues();
     say(b"asked of the whole list:\n");
-    ask_good(&ledger, &good);
+    ask_rows(&ledger, &good);
+    ask_slots(&ledger, &good);
+    ask_few(&ledger);
     ask_ill(&ledger);
     say_sheets(&ledger, &good);
 }

@@ -1,8 +1,9 @@
 // The cases: frames of 125 bytes in a file, taken one after another into a ledger for PRN 60.
 use crate::ask::issues;
 use crate::say::say;
-use crate::say::say_number;
 use crate::say::say_row;
+use crate::say::say_text;
+use console::words::next_word;
 use held_mask::LEDGER_SIZE;
 use ledger::Ledger;
 use ledger::open::open;
@@ -48,11 +49,16 @@ fn say_nth(ledger: &[u8], n: u16) {
     say_row(row);
 }
 
+// Writes how many rows the list has.
+fn say_count(count: u16) {
+    let numbers = [count as u64];
+    say_text(b", rows #", &numbers);
+}
+
 // Writes how many rows the list has, and each of them.
 fn say_rows(ledger: &[u8]) {
     let count = rows(ledger);
-    say(b", rows ");
-    say_number(count as u64);
+    say_count(count);
     let mut n: u16 = 0;
     while n < count {
         n += 1;
@@ -62,17 +68,15 @@ fn say_rows(ledger: &[u8]) {
 
 // Writes the number of a frame, its answer and the list after it, on lines of their own.
 fn say_listed(ledger: &[u8], number: u64, answer: u64) {
-    say(b"\n  frame ");
-    say_number(number);
-    say(b": ");
-    say_number(answer);
+    let numbers = [number, answer];
+    say_text(b"\n  frame #: #", &numbers);
     say_rows(ledger);
 }
 
 // Writes the answer to a frame.
 fn say_answer(answer: u64) {
-    say(b" ");
-    say_number(answer);
+    let numbers = [answer];
+    say_text(b" #", &numbers);
 }
 
 // Takes the next frame and writes its answer; where the case is listed, with the list after it. False at the end of
@@ -113,47 +117,54 @@ fn case(name: &[u8], listed: bool) {
     libc::close(file);
 }
 
+// Runs the case whose name is the first word of a text from a position on; the answer is where that word ends.
+fn case_at(names: &[u8], at: usize, listed: bool) -> usize {
+    let w = next_word(names, at);
+    let a = w.from;
+    let b = w.to;
+    if a < b {
+        case(&names[a..b], listed);
+    }
+    b
+}
+
+// Runs the cases whose names are the words of a text, of at most 100.
+fn cases(names: &[u8], listed: bool) {
+    let mut at: usize = 0;
+    let mut left: u8 = 100;
+    while left > 0 && at < names.len() {
+        at = case_at(names, at, listed);
+        left -= 1;
+    }
+}
+
 // The cases of refusals.
 pub(crate) fn refusals() {
-    case(b"epochs", false);
-    case(b"46-set-bits", false);
-    case(b"48-set-bits", false);
-    case(b"empty-mask", false);
-    case(b"ends", false);
-    case(b"slots", false);
-    case(b"frames", false);
-    case(b"lowest-first", false);
-    case(b"printed-across", false);
+    cases(
+        b"epochs 46-set-bits 48-set-bits empty-mask ends slots frames lowest-first printed-across",
+        false,
+    );
 }
 
 // The cases of the list: the whole list, the slips that look right, and what a row asks.
 pub(crate) fn the_list() {
-    case(b"whole-list", true);
-    case(b"mask-in-front", true);
-    case(b"one-bit", true);
-    case(b"ssr-alone", true);
-    case(b"older-clock", true);
-    case(b"refused-six", true);
-    case(b"unusable-clock", true);
-    case(b"no-mask", true);
-    case(b"amiss", true);
-    case(b"zeros", true);
+    cases(
+        b"whole-list mask-in-front one-bit ssr-alone older-clock refused-six unusable-clock no-mask amiss zeros",
+        true,
+    );
 }
 
 // The cases of CR 3: which of two records for a slot counts.
 pub(crate) fn the_newest() {
-    case(b"replayed-hour", true);
-    case(b"half-a-day", true);
-    case(b"over-midnight", true);
-    case(b"another-issue", true);
-    case(b"dropped-clock", true);
-    case(b"unusable-newer", true);
-    case(b"own-epochs", true);
+    cases(
+        b"replayed-hour half-a-day over-midnight another-issue dropped-clock unusable-newer own-epochs",
+        true,
+    );
 }
 
 // The cases of CR 2: code biases, and URA codes that replace an orbit's own.
 pub(crate) fn biases_and_codes() {
-    case(b"biases", false);
-    case(b"codes", true);
-    case(b"70-set-bits", false);
+    cases(b"biases", false);
+    cases(b"codes", true);
+    cases(b"70-set-bits", false);
 }

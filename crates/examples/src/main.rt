@@ -11,7 +11,7 @@ mod sheet;
 use held_mask::LEDGER_SIZE;
 use libc::STDOUT_FILENO;
 use say::say;
-use say::say_number;
+use say::say_text;
 use say::say_ura;
 use verdict::number_of;
 
@@ -88,13 +88,8 @@ fn caught_count() -> u64 {
 
 // Writes a product of the field.
 fn say_product(a: u8, b: u8) {
-    say(b"field: ");
-    say_number(a as u64);
-    say(b" x ");
-    say_number(b as u64);
-    say(b" = ");
-    say_number(field64::mul(a, b) as u64);
-    say(b"\n");
+    let numbers = [a as u64, b as u64, field64::mul(a, b) as u64];
+    say_text(b"field: # x # = #\n", &numbers);
 }
 
 // Writes the check of 462 zero bits, the last of them made b.
@@ -119,53 +114,40 @@ fn say_parity() {
 
 // Writes how many damaged symbols are caught.
 fn say_caught() {
-    say(b"damaged symbols caught: ");
-    say_number(caught_count());
-    say(b" of 162\n");
+    let numbers = [caught_count()];
+    say_text(b"damaged symbols caught: # of 162\n", &numbers);
 }
 
 // Writes which groups fail where symbol k is damaged.
 fn say_groups(k: u8) {
     let out = damaged(k);
     let g = parity::failed_groups(&out);
-    say(b"symbol ");
-    say_number(k as u64);
-    say(b" damaged: first group ");
-    say_number(g.first as u64);
-    say(b", failing ");
-    say_number(g.failing as u64);
-    say(b"\n");
+    let numbers = [k as u64, g.first as u64, g.failing as u64];
+    say_text(b"symbol # damaged: first group #, failing #\n", &numbers);
 }
 
 // Writes the accuracy index of a code.
 fn say_code(code: u8) {
-    say(b"URA code ");
-    say_number(code as u64);
-    say(b": ");
+    let numbers = [code as u64];
+    say_text(b"URA code #: ", &numbers);
     say_ura(ura::ura_of(code));
     say(b"\n");
 }
 
 // Writes the bit after the last of a message with these counts.
 fn say_end(kind: u8, numc: u8, numo: u8) {
-    say(b"type ");
-    say_number(kind as u64);
-    say(b", ");
-    say_number(numc as u64);
-    say(b" and ");
-    say_number(numo as u64);
-    say(b", ends at ");
-    say_number(layout::end_of(layout::layout_of(kind, numc, numo)) as u64);
-    say(b"\n");
+    let end = layout::end_of(layout::layout_of(kind, numc, numo));
+    let numbers = [kind as u64, numc as u64, numo as u64, end as u64];
+    say_text(b"type #, # and #, ends at #\n", &numbers);
 }
 
 // Writes the answer to a message.
 fn say_read(text: &[u8], message: &[u8]) {
     let reading = message::read(message);
     let v = reading.verdict;
+    let numbers = [number_of(v) as u64];
     say(text);
-    say_number(number_of(v) as u64);
-    say(b"\n");
+    say_text(b"#\n", &numbers);
 }
 
 // Writes the answer to a message of zero bytes but for one bit.
@@ -184,8 +166,8 @@ fn opens(prn: u8) -> bool {
 // Writes the PRN if a ledger can be opened for it.
 fn say_if_opens(prn: u8) {
     if opens(prn) {
-        say(b" ");
-        say_number(prn as u64);
+        let numbers = [prn as u64];
+        say_text(b" #", &numbers);
     }
 }
 

@@ -1,4 +1,5 @@
 // Writing to standard output.
+use console::put::put_text;
 use libc::STDOUT_FILENO;
 use row::Row;
 use slots::System;
@@ -12,6 +13,13 @@ pub(crate) fn say(text: &[u8]) {
 // Writes a number.
 pub(crate) fn say_number(n: u64) {
     io::print_decimal(STDOUT_FILENO, n);
+}
+
+// Writes a text with the next of some numbers for each mark # in it.
+pub(crate) fn say_text(text: &[u8], numbers: &[u64]) {
+    let mut room = io::buffer();
+    let n = put_text(&mut room, 0, text, numbers);
+    say(&room[..n]);
 }
 
 // How far a number lies from 0.
@@ -61,22 +69,26 @@ fn say_value(name: &[u8], value: i32) {
 fn say_satellite(row: Row) {
     let slot = row.slot;
     let system = row.system;
-    say_value(b"\n    slot ", slot.0 as i32);
-    say(b", ");
+    let first = [slot.0 as u64];
+    let others = [row.number as u64, row.iodn as u64, row.corr as u64];
+    say_text(b"\n    slot #, ", &first);
     say_system(system);
-    say_value(b" ", row.number as i32);
-    say_value(b", IODN ", row.iodn as i32);
-    say_value(b", corr ", row.corr as i32);
+    say_text(b" #, IODN #, corr #", &others);
+}
+
+// Writes the corrections of a row.
+fn say_corrections(row: Row) {
+    say_value(b", radial ", row.radial);
+    say_value(b", along ", row.along);
+    say_value(b", cross ", row.cross);
+    say_value(b", clock ", row.clock);
 }
 
 // Writes a row, on a new line.
 pub(crate) fn say_row(row: Row) {
     let ura = row.ura;
     say_satellite(row);
-    say_value(b", radial ", row.radial);
-    say_value(b", along ", row.along);
-    say_value(b", cross ", row.cross);
-    say_value(b", clock ", row.clock);
+    say_corrections(row);
     say(b", URA ");
     say_ura(ura);
 }

@@ -1,6 +1,6 @@
 // The correction sheet of the whole list, which 02 prints in CR 7.
 use crate::say::say;
-use crate::say::say_number;
+use crate::say::say_text;
 use sheet_writing::Sheet;
 use sheet_writing::write_sheet;
 
@@ -32,8 +32,8 @@ fn say_sheet(room: &[u8], s: Sheet) {
     match s {
         Sheet::Written(length) => say_bytes(room, length as usize),
         Sheet::Refused(n) => {
-            say(b" ");
-            say_number(n as u64);
+            let numbers = [n as u64];
+            say_text(b" #", &numbers);
         }
     }
     say(b"\n");

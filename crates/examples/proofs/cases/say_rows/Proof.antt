@@ -12,17 +12,8 @@ abbrev μ-loop : tie.MeasureT-loop
 rows-requires : tie.Need-rows-requires Inv-loop μ-loop
 rows-requires c κs = search needs
 
-slice-aggregate-say : tie.Need-slice-aggregate-say Inv-loop μ-loop
-slice-aggregate-say c = search needs
-
-say-requires : tie.Need-say-requires Inv-loop μ-loop
-say-requires c κs = search needs
-
-cast-say-number : tie.Need-cast-say-number Inv-loop μ-loop
-cast-say-number c = search needs
-
-say-number-requires : tie.Need-say-number-requires Inv-loop μ-loop
-say-number-requires c κs = search needs
+say-count-requires : tie.Need-say-count-requires Inv-loop μ-loop
+say-count-requires c κs = search needs
 
 loop-holds : tie.Need-loop-holds Inv-loop μ-loop
 loop-holds c = search needs
@@ -49,10 +40,7 @@ say-rows-spec =
     Inv-loop
     μ-loop
     rows-requires
-    slice-aggregate-say
-    say-requires
-    cast-say-number
-    say-number-requires
+    say-count-requires
     loop-holds
     add-n
     say-nth-requires
