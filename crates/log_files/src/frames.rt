@@ -5,10 +5,8 @@ use crate::accounts::REFUSED;
 use crate::accounts::owner_of;
 use crate::accounts::refuse;
 use console::put::put_byte;
-use console::put::put_bytes;
 use console::put::put_detail;
-use console::put::put_field;
-use console::put::put_number;
+use console::put::put_text;
 use libc::STDERR_FILENO;
 use table_form::TABLE_SIZE;
 use tally::TALLY_SIZE;
@@ -36,20 +34,21 @@ fn put_outcome(room: &mut [u8], at: usize, v: Verdict, kind: u8) -> usize
 {
     let refusal = number_of(v);
     if refusal == 0 {
-        let a = put_bytes(room, at, b" taken");
-        return put_field(room, a, b"type", kind as u64);
+        let kinds = [kind as u64];
+        return put_text(room, at, b" taken type #", &kinds);
     }
-    let a = put_field(room, at, b"refused", refusal as u64);
+    let numbers = [refusal as u64];
+    let a = put_text(room, at, b" refused #", &numbers);
     put_detail(room, a, v)
 }
 
 // The line of a frame; false where it cannot be written.
 fn write_frame(program: &[u8], number: u64, v: Verdict, kind: u8) -> bool {
     let mut room = [0u8; 80];
-    let a = put_bytes(&mut room, 0, b"frame ");
-    let b = put_number(&mut room, a, number);
-    let c = put_outcome(&mut room, b, v, kind);
-    let n = put_byte(&mut room, c, 10);
+    let numbers = [number];
+    let a = put_text(&mut room, 0, b"frame #", &numbers);
+    let b = put_outcome(&mut room, a, v, kind);
+    let n = put_byte(&mut room, b, 10);
     console::out::write(program, &room[..n])
 }
 
@@ -59,9 +58,8 @@ fn progress(number: u64, quiet: bool) {
         return;
     }
     let mut room = [0u8; 80];
-    let a = put_bytes(&mut room, 0, b"... ");
-    let b = put_number(&mut room, a, number);
-    let n = put_bytes(&mut room, b, b" frames\n");
+    let numbers = [number];
+    let n = put_text(&mut room, 0, b"... # frames\n", &numbers);
     io::write_all(STDERR_FILENO, &room[..n]);
 }
 

@@ -15,7 +15,7 @@ use console::lines::Step;
 use console::lines::next_line;
 use console::lines::past_long;
 use console::put::put_bytes;
-use console::put::put_field;
+use console::put::put_text;
 use inputs::files::close_named;
 use inputs::files::open_named;
 use inputs::hex::bytes_into;
@@ -114,11 +114,10 @@ fn say_bad(name: &[u8], number: u64, quiet: bool, before: u64) {
         return;
     }
     let mut room = io::large_buffer();
+    let numbers = [number];
     let a = put_bytes(&mut room, 0, b"... ");
     let b = put_bytes(&mut room, a, name);
-    let c = put_bytes(&mut room, b, b":");
-    let d = put_field(&mut room, c, b"line", number);
-    let n = put_bytes(&mut room, d, b": not a record\n");
+    let n = put_text(&mut room, b, b": line #: not a record\n", &numbers);
     io::write_all(STDERR_FILENO, &room[..n]);
 }
 

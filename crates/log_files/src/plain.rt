@@ -54,6 +54,31 @@ fn stream_after(s: Stream, from: usize, to: usize, length: usize) -> Stream {
     r
 }
 
+// After a turn that took nothing.
+fn stopped(stream: Stream, accounts: Accounts, state: u8) -> After {
+    After {
+        stream,
+        accounts,
+        state,
+    }
+}
+
+// The state after a piece.
+fn state_of(good: bool) -> u8 {
+    if good { 0 } else { 2 }
+}
+
+// After a piece of what stands between two positions.
+fn after_piece(s: Stream, from: usize, to: usize, t: Taken) -> After {
+    let o = t.outcome;
+    let accounts = o.accounts;
+    After {
+        stream: stream_after(s, from, to, t.length),
+        accounts,
+        state: state_of(o.good),
+    }
+}
+
 // A turn: the next piece of the stream, of which enough stands in the room.
 fn turn(
     program: &[u8],
@@ -68,27 +93,13 @@ fn turn(
     let to = least(s.to, room.len());
     let from = least(s.from, to);
     if s.failed {
-        return After {
-            stream: s,
-            accounts: a,
-            state: 2,
-        };
+        return stopped(s, a, 2);
     }
     if from == to {
-        return After {
-            stream: s,
-            accounts: a,
-            state: 1,
-        };
+        return stopped(s, a, 1);
     }
     let t = take_piece(program, &room[from..to], a, how, table, tally, refused);
-    let o = t.outcome;
-    let accounts = o.accounts;
-    After {
-        stream: stream_after(s, from, to, t.length),
-        accounts,
-        state: if o.good { 0 } else { 2 },
-    }
+    after_piece(s, from, to, t)
 }
 
 // All pieces of a stream.
