@@ -4,9 +4,7 @@ use crate::fields::frame_of;
 use crate::fields::put_hex;
 use crate::fields::second_of;
 use console::put::put_byte;
-use console::put::put_bytes;
-use console::put::put_field;
-use console::put::put_number;
+use console::put::put_text;
 use console::turns::ENDED;
 use console::turns::NOTHING;
 use console::turns::WRITTEN;
@@ -17,11 +15,9 @@ use verdict::number_of;
 fn put_data(room: &mut [u8], d: &[u8]) -> usize
     ensures { λ r. ⌜ Counts r (now (room .exit)) ⌝ }
 {
-    let a = put_bytes(room, 0, b"frame ");
-    let b = put_number(room, a, frame_of(d) as u64);
-    let c = put_field(room, b, b"sow", second_of(d) as u64);
-    let e = put_bytes(room, c, b" data ");
-    put_hex(room, e, d)
+    let numbers = [frame_of(d) as u64, second_of(d) as u64];
+    let a = put_text(room, 0, b"frame # sow # data ", &numbers);
+    put_hex(room, a, d)
 }
 
 // A line goes to standard output.
@@ -43,9 +39,8 @@ fn write_data(d: &[u8]) -> u8 {
 // The line of a refusal.
 fn write_refused(refusal: u8) -> u8 {
     let mut room = [0u8; 40];
-    let a = put_bytes(&mut room, 0, b"refused ");
-    let b = put_number(&mut room, a, refusal as u64);
-    let n = put_byte(&mut room, b, 10);
+    let numbers = [refusal as u64];
+    let n = put_text(&mut room, 0, b"refused #\n", &numbers);
     write_line(&room[..n])
 }
 

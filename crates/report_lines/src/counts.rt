@@ -3,8 +3,7 @@ ghost use Rattle.io.specs.Counts.{Counts};
 use console::put::cursor_in;
 use console::put::put_byte;
 use console::put::put_bytes;
-use console::put::put_field;
-use console::put::put_number;
+use console::put::put_text;
 use console::refusals::put_refusal;
 use log_files::accounts::Account;
 use log_files::accounts::REFUSED;
@@ -15,10 +14,9 @@ use tally::TALLY_SIZE;
 pub fn put_count(room: &mut [u8], at: usize, word: &[u8], n: u64) -> usize
     ensures { λ r. ⌜ Counts r (now (room .exit)) ⌝ }
 {
+    let numbers = [n];
     let a = put_bytes(room, at, word);
-    let b = put_byte(room, a, b' ');
-    let c = put_number(room, b, n);
-    put_byte(room, c, 10)
+    put_text(room, a, b" #\n", &numbers)
 }
 
 // Frames refused, by how many there are and how many were taken.
@@ -30,11 +28,8 @@ pub fn refused_of(all: u64, taken: u64) -> u64 {
 pub fn put_frames(room: &mut [u8], at: usize, all: u64, taken: u64) -> usize
     ensures { λ r. ⌜ Counts r (now (room .exit)) ⌝ }
 {
-    let a = put_bytes(room, at, b"frames ");
-    let b = put_number(room, a, all);
-    let c = put_field(room, b, b"taken", taken);
-    let d = put_field(room, c, b"refused", refused_of(all, taken));
-    put_byte(room, d, 10)
+    let numbers = [all, taken, refused_of(all, taken)];
+    put_text(room, at, b"frames # taken # refused #\n", &numbers)
 }
 
 // The line of a refusal that occurred.
@@ -44,13 +39,10 @@ pub fn put_times(room: &mut [u8], at: usize, number: u8, times: u64) -> usize
     if times == 0 {
         return cursor_in(room, at);
     }
-    let a = put_bytes(room, at, b"refusal ");
-    let b = put_number(room, a, number as u64);
-    let c = put_byte(room, b, b' ');
-    let d = put_number(room, c, times);
-    let e = put_byte(room, d, b' ');
-    let f = put_refusal(room, e, number);
-    put_byte(room, f, 10)
+    let numbers = [number as u64, times];
+    let a = put_text(room, at, b"refusal # # ", &numbers);
+    let b = put_refusal(room, a, number);
+    put_byte(room, b, 10)
 }
 
 // How often a refusal occurred, by the tally.

@@ -2,9 +2,8 @@
 ghost use Rattle.io.specs.Counts.{Counts};
 use crate::counts::put_count;
 use console::put::cursor_in;
-use console::put::put_byte;
 use console::put::put_bytes;
-use console::put::put_field;
+use console::put::put_text;
 use log::epochs::Epochs;
 
 // Bits of satellites, by how many are set and how many of them are reserved.
@@ -30,11 +29,8 @@ fn put_reserved(room: &mut [u8], at: usize, reserved: u16) -> usize
 fn put_mask_line(room: &mut [u8], at: usize, ssr: u8, iodp: u8, satellites: u64) -> usize
     ensures { λ r. ⌜ Counts r (now (room .exit)) ⌝ }
 {
-    let a = put_bytes(room, at, b"mask");
-    let b = put_field(room, a, b"ssr", ssr as u64);
-    let c = put_field(room, b, b"iodp", iodp as u64);
-    let d = put_field(room, c, b"satellites", satellites);
-    put_byte(room, d, 10)
+    let numbers = [ssr as u64, iodp as u64, satellites];
+    put_text(room, at, b"mask ssr # iodp # satellites #\n", &numbers)
 }
 
 // The line of the mask in force, and how many reserved bits it has.
@@ -47,28 +43,22 @@ pub fn put_mask(room: &mut [u8], at: usize, ledger: &[u8]) -> usize
     let ssr = held_mask::mask_ssr(ledger);
     let iodp = held_mask::mask_iodp(ledger);
     let reserved = crate::rows::reserved_count(ledger);
-    let satellites = assigned_of(mask_counts::set_count(ledger), reserved);
+    let satellites = assigned_of(mask_bits::set_count(ledger), reserved);
     let a = put_mask_line(room, at, ssr, iodp, satellites);
     put_reserved(room, a, reserved)
-}
-
-// The first and the last epoch.
-fn put_ends(room: &mut [u8], at: usize, e: Epochs) -> usize
-    ensures { λ r. ⌜ Counts r (now (room .exit)) ⌝ }
-{
-    let a = put_field(room, at, b"first", e.first as u64);
-    put_field(room, a, b"last", e.last as u64)
 }
 
 // The line of the epochs, where there are any.
 fn put_some_epochs(room: &mut [u8], at: usize, e: Epochs) -> usize
     ensures { λ r. ⌜ Counts r (now (room .exit)) ⌝ }
 {
-    let a = put_bytes(room, at, b"epochs");
-    let b = put_ends(room, a, e);
-    let c = put_field(room, b, b"longest-gap", e.gap as u64);
-    let d = put_field(room, c, b"frames-since", e.since);
-    put_byte(room, d, 10)
+    let numbers = [e.first as u64, e.last as u64, e.gap as u64, e.since];
+    put_text(
+        room,
+        at,
+        b"epochs first # last # longest-gap # frames-since #\n",
+        &numbers,
+    )
 }
 
 // The line of the epochs of the frames taken.

@@ -2,10 +2,8 @@
 ghost use Rattle.io.specs.Counts.{Counts};
 use crate::counts::refused_of;
 use console::put::cursor_in;
-use console::put::put_byte;
 use console::put::put_bytes;
-use console::put::put_field;
-use console::put::put_number;
+use console::put::put_text;
 use log_files::heard::Heard;
 
 // The line of a refusal of subframes of a kind that occurred.
@@ -15,12 +13,9 @@ fn put_times(room: &mut [u8], at: usize, kind: &[u8], number: u8, times: u64) ->
     if times == 0 {
         return cursor_in(room, at);
     }
+    let numbers = [number as u64, times];
     let a = put_bytes(room, at, kind);
-    let b = put_bytes(room, a, b"-refusal ");
-    let c = put_number(room, b, number as u64);
-    let d = put_byte(room, c, b' ');
-    let e = put_number(room, d, times);
-    put_byte(room, e, 10)
+    put_text(room, a, b"-refusal # #\n", &numbers)
 }
 
 // The lines of the refusals of subframes of a kind that occurred, rising.
@@ -36,23 +31,19 @@ fn put_refusals(room: &mut [u8], at: usize, kind: &[u8], counts: &[u64; 41]) -> 
     n
 }
 
-// The line of the subframes of a kind, with the word for those that were taken.
-fn put_kind(room: &mut [u8], at: usize, kind: &[u8], word: &[u8], all: u64, taken: u64) -> usize
+// The line of the subframes of a kind, by its text.
+fn put_kind(room: &mut [u8], at: usize, text: &[u8], all: u64, taken: u64) -> usize
     ensures { λ r. ⌜ Counts r (now (room .exit)) ⌝ }
 {
-    let a = put_bytes(room, at, kind);
-    let b = put_byte(room, a, b' ');
-    let c = put_number(room, b, all);
-    let d = put_field(room, c, word, taken);
-    let e = put_field(room, d, b"refused", refused_of(all, taken));
-    put_byte(room, e, 10)
+    let numbers = [all, taken, refused_of(all, taken)];
+    put_text(room, at, text, &numbers)
 }
 
-// The lines of the subframes of a kind.
-fn put_counts(room: &mut [u8], at: usize, kind: &[u8], word: &[u8], counts: &[u64; 41]) -> usize
+// The lines of the subframes of a kind; the text is that of the first.
+fn put_counts(room: &mut [u8], at: usize, kind: &[u8], text: &[u8], counts: &[u64; 41]) -> usize
     ensures { λ r. ⌜ Counts r (now (room .exit)) ⌝ }
 {
-    let a = put_kind(room, at, kind, word, counts[40], counts[0]);
+    let a = put_kind(room, at, text, counts[40], counts[0]);
     put_refusals(room, a, kind, counts)
 }
 
@@ -60,10 +51,8 @@ fn put_counts(room: &mut [u8], at: usize, kind: &[u8], word: &[u8], counts: &[u6
 fn put_lines(room: &mut [u8], at: usize, lines: u64, bad: u64) -> usize
     ensures { λ r. ⌜ Counts r (now (room .exit)) ⌝ }
 {
-    let a = put_bytes(room, at, b"lines ");
-    let b = put_number(room, a, lines);
-    let c = put_field(room, b, b"bad", bad);
-    put_byte(room, c, 10)
+    let numbers = [lines, bad];
+    put_text(room, at, b"lines # bad #\n", &numbers)
 }
 
 // What the report of mixed logs says besides.
@@ -75,7 +64,7 @@ pub fn put_subframes(room: &mut [u8], at: usize, heard: Heard, mixed: bool) -> u
     }
     let cnav1 = heard.cnav1;
     let d1 = heard.d1;
-    let a = put_counts(room, at, b"cnav1", b"joined", &cnav1);
-    let b = put_counts(room, a, b"d1", b"read", &d1);
+    let a = put_counts(room, at, b"cnav1", b"cnav1 # joined # refused #\n", &cnav1);
+    let b = put_counts(room, a, b"d1", b"d1 # read # refused #\n", &d1);
     put_lines(room, b, heard.lines, heard.bad)
 }

@@ -5,10 +5,7 @@ use crate::reading::put_wrong;
 use crate::writing::how;
 use crate::writing::prn_of;
 use console::put::cursor_in;
-use console::put::put_byte;
-use console::put::put_bytes;
-use console::put::put_field;
-use console::put::put_number;
+use console::put::put_text;
 use log_files::accounts::REFUSED;
 use log_files::command::take_night;
 use sheet_checking::Checked;
@@ -21,28 +18,24 @@ use tally::TALLY_SIZE;
 fn put_accepted(room: &mut [u8], left: u16) -> usize
     ensures { λ r. ⌜ Counts r (now (room .exit)) ⌝ }
 {
-    let a = put_bytes(room, 0, b"accepted");
-    let b = put_field(room, a, b"left-out", left as u64);
-    put_byte(room, b, 10)
+    let numbers = [left as u64];
+    put_text(room, 0, b"accepted left-out #\n", &numbers)
 }
 
 // The line of a sheet that is refused by a number alone.
 fn put_refused(room: &mut [u8], number: u8) -> usize
     ensures { λ r. ⌜ Counts r (now (room .exit)) ⌝ }
 {
-    let a = put_bytes(room, 0, b"refused ");
-    let b = put_number(room, a, number as u64);
-    put_byte(room, b, 10)
+    let numbers = [number as u64];
+    put_text(room, 0, b"refused #\n", &numbers)
 }
 
 // The line of a sheet that is refused for a row.
 fn put_row_refused(room: &mut [u8], number: u8, row: u16) -> usize
     ensures { λ r. ⌜ Counts r (now (room .exit)) ⌝ }
 {
-    let a = put_bytes(room, 0, b"refused ");
-    let b = put_number(room, a, number as u64);
-    let c = put_field(room, b, b"row", row as u64);
-    put_byte(room, c, 10)
+    let numbers = [number as u64, row as u64];
+    put_text(room, 0, b"refused # row #\n", &numbers)
 }
 
 // The line of an answer.
