@@ -4,7 +4,7 @@ use Rattle.console.specs.declared.words.Number.{Number}
 use Rattle.console.specs.declared.words.Number.the-variants.{Value, Nothing}
 use Rattle.console.specs.declared.words.Raw.{Raw}
 use Rattle.console.specs.declared.words.Raw.the-variants as raw
-use lib.IntN.{ℤ, natAbs}
+use lib.IntN.{natAbs}
 
 -- the number, 0 where there is none
 abbrev pub valueOf : Number → ℕ

@@ -43,7 +43,7 @@ pub fn put_mask(room: &mut [u8], at: usize, ledger: &[u8]) -> usize
     let ssr = held_mask::mask_ssr(ledger);
     let iodp = held_mask::mask_iodp(ledger);
     let reserved = crate::rows::reserved_count(ledger);
-    let satellites = assigned_of(mask_bits::set_count(ledger), reserved);
+    let satellites = assigned_of(mask_counts::set_count(ledger), reserved);
     let a = put_mask_line(room, at, ssr, iodp, satellites);
     put_reserved(room, a, reserved)
 }

@@ -1,14 +1,11 @@
 use Rattle.io.proofs.Counting.{counts}
 use borrow.Author.Needs.{needs}
 use native.Mathlib.Omega.{arith}
-use Prim.Native.Nat.{ℕ, zero, suc, _+_, _*_, _-_, _/_, _%_, _^_, _≤_, _<_}
-use mathlib.Core.Path.{_≡_, sym, ap, _∙_, refl, subst}
-use lib.ListN.{length, getD}
+use Prim.Native.Nat.{_-_, _≤_}
+use mathlib.Core.Path.{_≡_}
+use lib.ListN.{length}
 use Rattle.console.proofs.input.fill.Statement.{statement}
 use Rattle.console.proofs.input.fill.Tie as tie
-use Rattle.console.proofs.input.fill.Reads as reads
-use Rattle.console.proofs.input.fill.Lts as lts
-use Rattle.console.proofs.input.read_on.Reads as read-on-reads
 
 abbrev Inv-loop : tie.InvT-loop
 Inv-loop fd room₀ done₀ room done = (length room ≡ length room₀) × (done ≤ length room)

@@ -1,15 +1,9 @@
 use Rattle.io.proofs.Counting.{counts}
 use borrow.Author.Needs.{needs}
 use native.Mathlib.Omega.{arith}
-use Prim.Native.Nat.{ℕ, zero, suc, _+_, _*_, _-_, _/_, _%_, _^_, _≤_, _<_}
-use mathlib.Core.Path.{_≡_, sym, ap, _∙_, refl, subst}
-use lib.ListN.{length, getD}
+use Prim.Native.Nat.{_-_}
 use Rattle.console.proofs.input.read_after.Statement.{statement}
 use Rattle.console.proofs.input.read_after.Tie as tie
-use Rattle.console.proofs.input.read_after.Reads as reads
-use Rattle.console.proofs.input.read_after.Lts as lts
-use Rattle.io.proofs.count.Reads as count-reads
-use Rattle.libc.proofs.read.Reads as read-reads
 
 sub-read : tie.Need-sub-read
 sub-read c = search needs

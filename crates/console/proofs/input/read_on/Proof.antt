@@ -1,14 +1,9 @@
 use Rattle.io.proofs.Counting.{counts}
 use borrow.Author.Needs.{needs}
 use native.Mathlib.Omega.{arith}
-use Prim.Native.Nat.{ℕ, zero, suc, _+_, _*_, _-_, _/_, _%_, _^_, _≤_, _<_}
-use mathlib.Core.Path.{_≡_, sym, ap, _∙_, refl, subst}
-use lib.ListN.{length, getD}
+use Prim.Native.Nat.{_-_}
 use Rattle.console.proofs.input.read_on.Statement.{statement}
 use Rattle.console.proofs.input.read_on.Tie as tie
-use Rattle.console.proofs.input.read_on.Reads as reads
-use Rattle.console.proofs.input.read_on.Lts as lts
-use Rattle.console.proofs.input.read_after.Reads as read-after-reads
 
 read-after-requires : tie.Need-read-after-requires
 read-after-requires c κs = search needs

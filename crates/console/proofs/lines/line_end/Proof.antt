@@ -1,12 +1,7 @@
 use borrow.Author.Needs.{needs}
-use native.Mathlib.Omega.{arith}
-use Prim.Native.Nat.{ℕ, zero, suc, _+_, _*_, _-_, _/_, _%_, _^_, _≤_, _<_}
-use mathlib.Core.Path.{_≡_, sym, ap, _∙_, refl, subst}
-use lib.ListN.{length, getD}
+use Prim.Native.Nat.{_-_, _≤_}
 use Rattle.console.proofs.lines.line_end.Statement.{statement}
 use Rattle.console.proofs.lines.line_end.Tie as tie
-use Rattle.console.proofs.lines.line_end.Reads as reads
-use Rattle.console.proofs.lines.line_end.Lts as lts
 
 abbrev Inv-loop : tie.InvT-loop
 Inv-loop room from to i₀ i = (from ≤ i) × (i ≤ to)

@@ -1,12 +1,9 @@
 use borrow.Author.Needs.{needs}
-use native.Mathlib.Omega.{arith}
-use Prim.Native.Nat.{ℕ, zero, suc, _+_, _*_, _-_, _/_, _%_, _^_, _≤_, _<_}
-use mathlib.Core.Path.{_≡_, sym, ap, _∙_, refl, subst}
-use lib.ListN.{length, getD}
+use Prim.Native.Nat.{_+_, _-_, _≤_}
+use mathlib.Core.Path.{_≡_}
+use lib.ListN.{length}
 use Rattle.console.proofs.lines.moved.Statement.{statement}
 use Rattle.console.proofs.lines.moved.Tie as tie
-use Rattle.console.proofs.lines.moved.Reads as reads
-use Rattle.console.proofs.lines.moved.Lts as lts
 
 abbrev Inv-loop : tie.InvT-loop
 Inv-loop room₀ from to n i₀ room i = (length room ≡ length room₀) × (from + n ≤ length room₀) × (i ≤ n)

@@ -1,14 +1,9 @@
 use borrow.Author.Needs.{needs}
-use native.Mathlib.Omega.{arith}
-use Prim.Native.Nat.{ℕ, zero, suc, _+_, _*_, _-_, _/_, _%_, _^_, _≤_, _<_}
-use mathlib.Core.Path.{_≡_, sym, ap, _∙_, refl, subst}
-use lib.ListN.{length, getD}
+use Prim.Native.Nat.{_-_}
+use mathlib.Core.Path.{_≡_}
+use lib.ListN.{length}
 use Rattle.console.proofs.lines.past_long.Statement.{statement}
 use Rattle.console.proofs.lines.past_long.Tie as tie
-use Rattle.console.proofs.lines.past_long.Reads as reads
-use Rattle.console.proofs.lines.past_long.Lts as lts
-use Rattle.console.proofs.lines.is_unended.Reads as is-unended-reads
-use Rattle.console.proofs.lines.read_past.Reads as read-past-reads
 
 abbrev Inv-loop : tie.InvT-loop
 Inv-loop fd room₀ l r₀ more₀ left₀ room r more left = length room ≡ length room₀

@@ -1,17 +1,9 @@
 use borrow.Author.Needs.{needs}
-use native.Mathlib.Omega.{arith}
-use Prim.Native.Nat.{ℕ, zero, suc, _+_, _*_, _-_, _/_, _%_, _^_, _≤_, _<_}
-use mathlib.Core.Path.{_≡_, sym, ap, _∙_, refl, subst}
-use lib.ListN.{length, getD}
+use Prim.Native.Nat.{_-_}
+use mathlib.Core.Path.{_≡_}
+use lib.ListN.{length}
 use Rattle.console.proofs.lines.read_line.Statement.{statement}
 use Rattle.console.proofs.lines.read_line.Tie as tie
-use Rattle.console.proofs.lines.read_line.Reads as reads
-use Rattle.console.proofs.lines.read_line.Lts as lts
-use Rattle.console.proofs.input.read_on.Reads as read-on-reads
-use Rattle.console.proofs.lines.found.Reads as found-reads
-use Rattle.console.proofs.lines.last_line.Reads as last-line-reads
-use Rattle.console.proofs.lines.line_end.Reads as line-end-reads
-use Rattle.console.proofs.lines.without.Reads as without-reads
 
 abbrev Inv-loop : tie.InvT-loop
 Inv-loop fd room₀ first have₀ room have = length room ≡ length room₀

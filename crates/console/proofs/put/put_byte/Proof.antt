@@ -2,13 +2,9 @@ use lib.ListN.{length-set}
 use Rattle.io.proofs.Counting.{counts}
 use borrow.Author.Needs.{needs}
 use native.Mathlib.Omega.{arith}
-use Prim.Native.Nat.{ℕ, zero, suc, _+_, _*_, _-_, _/_, _%_, _^_, _≤_, _<_}
-use mathlib.Core.Path.{_≡_, sym, ap, _∙_, refl, subst}
-use lib.ListN.{length, getD}
+use Prim.Native.Nat.{_-_}
 use Rattle.console.proofs.put.put_byte.Statement.{statement}
 use Rattle.console.proofs.put.put_byte.Tie as tie
-use Rattle.console.proofs.put.put_byte.Reads as reads
-use Rattle.console.proofs.put.put_byte.Lts as lts
 
 slice-write-room : tie.Need-slice-write-room
 slice-write-room c = search needs

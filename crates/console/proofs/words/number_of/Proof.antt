@@ -1,14 +1,8 @@
 use borrow.Author.Needs.{needs}
-use native.Mathlib.Omega.{arith}
-use Prim.Native.Nat.{ℕ, zero, suc, _+_, _*_, _-_, _/_, _%_, _^_, _≤_, _<_}
-use mathlib.Core.Path.{_≡_, sym, ap, _∙_, refl, subst}
-use lib.ListN.{length, getD}
+use Prim.Native.Nat.{_-_, _≤_}
+use lib.ListN.{length}
 use Rattle.console.proofs.words.number_of.Statement.{statement}
 use Rattle.console.proofs.words.number_of.Tie as tie
-use Rattle.console.proofs.words.number_of.Reads as reads
-use Rattle.console.proofs.words.number_of.Lts as lts
-use Rattle.console.proofs.words.is_digit.Reads as is-digit-reads
-use Rattle.console.proofs.words.with_digit.Reads as with-digit-reads
 
 abbrev Inv-loop : tie.InvT-loop
 Inv-loop s v₀ i₀ v i = v ≤ 999999999

@@ -4,14 +4,9 @@ use mir.Facts.{toZ-pos, toZ-ofZ}
 use mir.Syntax.{w16}
 use borrow.Author.Needs.{needs}
 use native.Mathlib.Omega.{arith}
-use Prim.Native.Nat.{ℕ, zero, suc, _+_, _*_, _-_, _/_, _%_, _^_, _≤_, _<_}
-use mathlib.Core.Path.{_≡_, sym, ap, _∙_, refl, subst}
-use lib.ListN.{length, getD}
+use Prim.Native.Nat.{_-_}
 use Rattle.console.proofs.words.raw_from.Statement.{statement}
 use Rattle.console.proofs.words.raw_from.Tie as tie
-use Rattle.console.proofs.words.raw_from.Reads as reads
-use Rattle.console.proofs.words.raw_from.Lts as lts
-use Rattle.console.proofs.words.held.Reads as held-reads
 
 enum-known-size : tie.Need-enum-known-size
 enum-known-size c = search needs

@@ -1,13 +1,10 @@
 use mathlib.Core.Bool.{true≢false}
 use borrow.Author.Needs.{needs}
-use native.Mathlib.Omega.{arith}
-use Prim.Native.Nat.{ℕ, zero, suc, _+_, _*_, _-_, _/_, _%_, _^_, _≤_, _<_}
-use mathlib.Core.Path.{_≡_, sym, ap, _∙_, refl, subst}
-use lib.ListN.{length, getD}
+use Prim.Native.Nat.{_-_, _≤_}
+use mathlib.Core.Path.{sym}
+use lib.ListN.{length}
 use Rattle.console.proofs.words.same.Statement.{statement}
 use Rattle.console.proofs.words.same.Tie as tie
-use Rattle.console.proofs.words.same.Reads as reads
-use Rattle.console.proofs.words.same.Lts as lts
 
 abbrev Inv-loop : tie.InvT-loop
 Inv-loop s t i₀ i = i ≤ length s

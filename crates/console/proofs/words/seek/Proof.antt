@@ -1,13 +1,8 @@
 use borrow.Author.Needs.{needs}
-use native.Mathlib.Omega.{arith}
-use Prim.Native.Nat.{ℕ, zero, suc, _+_, _*_, _-_, _/_, _%_, _^_, _≤_, _<_}
-use mathlib.Core.Path.{_≡_, sym, ap, _∙_, refl, subst}
-use lib.ListN.{length, getD}
+use Prim.Native.Nat.{_-_, _≤_}
+use lib.ListN.{length}
 use Rattle.console.proofs.words.seek.Statement.{statement}
 use Rattle.console.proofs.words.seek.Tie as tie
-use Rattle.console.proofs.words.seek.Reads as reads
-use Rattle.console.proofs.words.seek.Lts as lts
-use Rattle.console.proofs.words.is_blank.Reads as is-blank-reads
 
 abbrev Inv-loop : tie.InvT-loop
 Inv-loop s at blank i₀ i = (at ≤ i) × (i ≤ length s)

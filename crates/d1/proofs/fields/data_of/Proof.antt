@@ -1,13 +1,9 @@
 use borrow.Author.Needs.{needs}
-use native.Mathlib.Omega.{arith}
-use Prim.Native.Nat.{ℕ, zero, suc, _+_, _*_, _-_, _/_, _%_, _^_, _≤_, _<_}
-use mathlib.Core.Path.{_≡_, sym, ap, _∙_, refl, subst}
-use lib.ListN.{length, getD}
+use Prim.Native.Nat.{_-_, _≤_}
+use mathlib.Core.Path.{_≡_}
+use lib.ListN.{length}
 use Rattle.d1.proofs.fields.data_of.Statement.{statement}
 use Rattle.d1.proofs.fields.data_of.Tie as tie
-use Rattle.d1.proofs.fields.data_of.Reads as reads
-use Rattle.d1.proofs.fields.data_of.Lts as lts
-use Rattle.d1.proofs.fields.pair_of.Reads as pair-of-reads
 
 abbrev Inv-loop : tie.InvT-loop
 Inv-loop w bytes₀ i₀ bytes i = (length w ≡ 56) × (i ≤ 28)

@@ -1,15 +1,11 @@
 use Rattle.io.proofs.Counting.{counts}
 use borrow.Author.Needs.{needs}
 use native.Mathlib.Omega.{arith}
-use Prim.Native.Nat.{ℕ, zero, suc, _+_, _*_, _-_, _/_, _%_, _^_, _≤_, _<_}
-use mathlib.Core.Path.{_≡_, sym, ap, _∙_, refl, subst}
-use lib.ListN.{length, getD}
+use Prim.Native.Nat.{_-_, _≤_}
+use mathlib.Core.Path.{_≡_}
+use lib.ListN.{length}
 use Rattle.d1.proofs.fields.put_hex.Statement.{statement}
 use Rattle.d1.proofs.fields.put_hex.Tie as tie
-use Rattle.d1.proofs.fields.put_hex.Reads as reads
-use Rattle.d1.proofs.fields.put_hex.Lts as lts
-use Rattle.console.proofs.put.cursor_in.Reads as cursor-in-reads
-use Rattle.d1.proofs.fields.put_pair.Reads as put-pair-reads
 
 abbrev Inv-loop : tie.InvT-loop
 Inv-loop room₀ at s n₀ i₀ room n i = (length room ≡ length room₀) × (n ≤ length room) × (i ≤ length s)

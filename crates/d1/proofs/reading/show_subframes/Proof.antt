@@ -1,13 +1,7 @@
 use borrow.Author.Needs.{needs}
-use native.Mathlib.Omega.{arith}
-use Prim.Native.Nat.{ℕ, zero, suc, _+_, _*_, _-_, _/_, _%_, _^_, _≤_, _<_}
-use mathlib.Core.Path.{_≡_, sym, ap, _∙_, refl, subst}
-use lib.ListN.{length, getD}
+use Prim.Native.Nat.{_-_}
 use Rattle.d1.proofs.reading.show_subframes.Statement.{statement}
 use Rattle.d1.proofs.reading.show_subframes.Tie as tie
-use Rattle.d1.proofs.reading.show_subframes.Reads as reads
-use Rattle.d1.proofs.reading.show_subframes.Lts as lts
-use Rattle.d1.proofs.reading.turn.Reads as turn-reads
 
 abbrev Inv-loop : tie.InvT-loop
 Inv-loop fd name state₀ done₀ left₀ state done left = Unit {0}

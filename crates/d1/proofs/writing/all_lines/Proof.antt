@@ -1,16 +1,9 @@
 use borrow.Author.Needs.{needs}
-use native.Mathlib.Omega.{arith}
-use Prim.Native.Nat.{ℕ, zero, suc, _+_, _*_, _-_, _/_, _%_, _^_, _≤_, _<_}
-use mathlib.Core.Path.{_≡_, sym, ap, _∙_, refl, subst}
-use lib.ListN.{length, getD}
+use Prim.Native.Nat.{_-_}
+use mathlib.Core.Path.{_≡_}
+use lib.ListN.{length}
 use Rattle.d1.proofs.writing.all_lines.Statement.{statement}
 use Rattle.d1.proofs.writing.all_lines.Tie as tie
-use Rattle.d1.proofs.writing.all_lines.Reads as reads
-use Rattle.d1.proofs.writing.all_lines.Lts as lts
-use Rattle.d1.proofs.writing.turn.Reads as turn-reads
-use Rattle.console.proofs.lines.begin.Reads as begin-reads
-use Rattle.console.proofs.lines.next_line.Reads as next-line-reads
-use Rattle.console.proofs.turns.counted.Reads as counted-reads
 
 abbrev Inv-loop : tie.InvT-loop
 Inv-loop fd name room₀ writes l₀ state₀ written₀ left₀ room l state written left = length room ≡ length room₀

@@ -1,14 +1,9 @@
 use borrow.Author.Needs.{needs}
-use native.Mathlib.Omega.{arith}
-use Prim.Native.Nat.{ℕ, zero, suc, _+_, _*_, _-_, _/_, _%_, _^_, _≤_, _<_}
-use mathlib.Core.Path.{_≡_, sym, ap, _∙_, refl, subst}
-use lib.ListN.{length, getD}
+use Prim.Native.Nat.{_-_}
+use mathlib.Core.Path.{_≡_}
+use lib.ListN.{length}
 use Rattle.log_files.proofs.plain.all_pieces.Statement.{statement}
 use Rattle.log_files.proofs.plain.all_pieces.Tie as tie
-use Rattle.log_files.proofs.plain.all_pieces.Reads as reads
-use Rattle.log_files.proofs.plain.all_pieces.Lts as lts
-use Rattle.log_files.proofs.plain.turn.Reads as turn-reads
-use Rattle.log_files.proofs.stream.filled.Reads as filled-reads
 
 abbrev Inv-loop : tie.InvT-loop
 Inv-loop program room₀ how table₀ tally₀ refused₀ r₀ a₀ state₀ left₀ room table tally refused r a state left = length room ≡ length room₀

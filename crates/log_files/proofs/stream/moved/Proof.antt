@@ -1,13 +1,9 @@
 use borrow.Author.Needs.{needs}
-use native.Mathlib.Omega.{arith}
-use Prim.Native.Nat.{ℕ, zero, suc, _+_, _*_, _-_, _/_, _%_, _^_, _≤_, _<_}
-use mathlib.Core.Path.{_≡_, sym, ap, _∙_, refl, subst}
-use lib.ListN.{length, getD}
+use Prim.Native.Nat.{_+_, _-_, _≤_}
+use mathlib.Core.Path.{_≡_}
+use lib.ListN.{length}
 use Rattle.log_files.proofs.stream.moved.Statement.{statement}
 use Rattle.log_files.proofs.stream.moved.Tie as tie
-use Rattle.log_files.proofs.stream.moved.Reads as reads
-use Rattle.log_files.proofs.stream.moved.Lts as lts
-use Rattle.inputs.proofs.ends.least.Reads as least-reads
 
 abbrev Inv-loop : tie.InvT-loop
 Inv-loop s room₀ to from n i₀ room i = (length room ≡ length room₀) × (to ≤ length room₀) × (from + n ≤ to) × (i ≤ n)

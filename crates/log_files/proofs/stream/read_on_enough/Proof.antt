@@ -1,14 +1,9 @@
 use borrow.Author.Needs.{needs}
-use native.Mathlib.Omega.{arith}
-use Prim.Native.Nat.{ℕ, zero, suc, _+_, _*_, _-_, _/_, _%_, _^_, _≤_, _<_}
-use mathlib.Core.Path.{_≡_, sym, ap, _∙_, refl, subst}
-use lib.ListN.{length, getD}
+use Prim.Native.Nat.{_-_}
+use mathlib.Core.Path.{_≡_}
+use lib.ListN.{length}
 use Rattle.log_files.proofs.stream.read_on_enough.Statement.{statement}
 use Rattle.log_files.proofs.stream.read_on_enough.Tie as tie
-use Rattle.log_files.proofs.stream.read_on_enough.Reads as reads
-use Rattle.log_files.proofs.stream.read_on_enough.Lts as lts
-use Rattle.log_files.proofs.stream.step.Reads as step-reads
-use Rattle.log_files.proofs.stream.wants.Reads as wants-reads
 
 abbrev Inv-loop : tie.InvT-loop
 Inv-loop program room₀ r₀ more₀ left₀ room r more left = length room ≡ length room₀

@@ -1,15 +1,7 @@
 use borrow.Author.Needs.{needs}
-use native.Mathlib.Omega.{arith}
-use Prim.Native.Nat.{ℕ, zero, suc, _+_, _*_, _-_, _/_, _%_, _^_, _≤_, _<_}
-use mathlib.Core.Path.{_≡_, sym, ap, _∙_, refl, subst}
-use lib.ListN.{length, getD}
+use Prim.Native.Nat.{_-_, _≤_}
 use Rattle.pack.proofs.clocks.read_clocks.Statement.{statement}
 use Rattle.pack.proofs.clocks.read_clocks.Tie as tie
-use Rattle.pack.proofs.clocks.read_clocks.Reads as reads
-use Rattle.pack.proofs.clocks.read_clocks.Lts as lts
-use Rattle.pack.proofs.clocks.clock_word.Reads as clock-word-reads
-use Rattle.pack.proofs.clocks.with_clock.Reads as with-clock-reads
-use Rattle.records.proofs.clock.blank_clock.Reads as blank-clock-reads
 
 abbrev Inv-loop : tie.InvT-loop
 Inv-loop s slotted most ks₀ cursor₀ i₀ ks cursor i = i ≤ most

@@ -1,12 +1,8 @@
 use borrow.Author.Needs.{needs}
-use native.Mathlib.Omega.{arith}
-use Prim.Native.Nat.{ℕ, zero, suc, _+_, _*_, _-_, _/_, _%_, _^_, _≤_, _<_}
-use mathlib.Core.Path.{_≡_, sym, ap, _∙_, refl, subst}
-use lib.ListN.{length, getD}
+use Prim.Native.Nat.{_-_, _≤_}
+use lib.ListN.{length}
 use Rattle.pack.proofs.fields.stroke.Statement.{statement}
 use Rattle.pack.proofs.fields.stroke.Tie as tie
-use Rattle.pack.proofs.fields.stroke.Reads as reads
-use Rattle.pack.proofs.fields.stroke.Lts as lts
 
 abbrev Inv-loop : tie.InvT-loop
 Inv-loop w at i₀ i = (at ≤ i) × (i ≤ length w)

@@ -1,15 +1,7 @@
 use borrow.Author.Needs.{needs}
-use native.Mathlib.Omega.{arith}
-use Prim.Native.Nat.{ℕ, zero, suc, _+_, _*_, _-_, _/_, _%_, _^_, _≤_, _<_}
-use mathlib.Core.Path.{_≡_, sym, ap, _∙_, refl, subst}
-use lib.ListN.{length, getD}
+use Prim.Native.Nat.{_-_, _≤_}
 use Rattle.pack.proofs.orbits.read_orbits.Statement.{statement}
 use Rattle.pack.proofs.orbits.read_orbits.Tie as tie
-use Rattle.pack.proofs.orbits.read_orbits.Reads as reads
-use Rattle.pack.proofs.orbits.read_orbits.Lts as lts
-use Rattle.pack.proofs.orbits.orbit_word.Reads as orbit-word-reads
-use Rattle.pack.proofs.orbits.with_orbit.Reads as with-orbit-reads
-use Rattle.records.proofs.orbit.blank_orbit.Reads as blank-orbit-reads
 
 abbrev Inv-loop : tie.InvT-loop
 Inv-loop s most os₀ cursor₀ i₀ os cursor i = i ≤ most

@@ -1,14 +1,7 @@
 use borrow.Author.Needs.{needs}
-use native.Mathlib.Omega.{arith}
-use Prim.Native.Nat.{ℕ, zero, suc, _+_, _*_, _-_, _/_, _%_, _^_, _≤_, _<_}
-use mathlib.Core.Path.{_≡_, sym, ap, _∙_, refl, subst}
-use lib.ListN.{length, getD}
+use Prim.Native.Nat.{_-_, _≤_}
 use Rattle.pack.proofs.slots.read_slots.Statement.{statement}
 use Rattle.pack.proofs.slots.read_slots.Tie as tie
-use Rattle.pack.proofs.slots.read_slots.Reads as reads
-use Rattle.pack.proofs.slots.read_slots.Lts as lts
-use Rattle.pack.proofs.slots.slot_word.Reads as slot-word-reads
-use Rattle.pack.proofs.cursor.failed.Reads as failed-reads
 
 abbrev Inv-loop : tie.InvT-loop
 Inv-loop s bytes₀ cursor₀ last₀ i₀ bytes cursor last i = i ≤ 255

@@ -1,14 +1,7 @@
 use borrow.Author.Needs.{needs}
-use native.Mathlib.Omega.{arith}
-use Prim.Native.Nat.{ℕ, zero, suc, _+_, _*_, _-_, _/_, _%_, _^_, _≤_, _<_}
-use mathlib.Core.Path.{_≡_, sym, ap, _∙_, refl, subst}
-use lib.ListN.{length, getD}
+use Prim.Native.Nat.{_-_, _≤_}
 use Rattle.report_lines.proofs.rows.absent_count.Statement.{statement}
 use Rattle.report_lines.proofs.rows.absent_count.Tie as tie
-use Rattle.report_lines.proofs.rows.absent_count.Reads as reads
-use Rattle.report_lines.proofs.rows.absent_count.Lts as lts
-use Rattle.report_lines.proofs.rows.is_absent.Reads as is-absent-reads
-use Rattle.report_lines.proofs.rows.issue_of.Reads as issue-of-reads
 
 abbrev Inv-loop : tie.InvT-loop
 Inv-loop ledger issues n₀ slot₀ n slot = slot ≤ 255

@@ -1,15 +1,11 @@
 use Rattle.io.proofs.Counting.{counts}
 use borrow.Author.Needs.{needs}
 use native.Mathlib.Omega.{arith}
-use Prim.Native.Nat.{ℕ, zero, suc, _+_, _*_, _-_, _/_, _%_, _^_, _≤_, _<_}
-use mathlib.Core.Path.{_≡_, sym, ap, _∙_, refl, subst}
-use lib.ListN.{length, getD}
+use Prim.Native.Nat.{_-_, _≤_}
+use mathlib.Core.Path.{_≡_}
+use lib.ListN.{length}
 use Rattle.report_lines.proofs.subframes.put_refusals.Statement.{statement}
 use Rattle.report_lines.proofs.subframes.put_refusals.Tie as tie
-use Rattle.report_lines.proofs.subframes.put_refusals.Reads as reads
-use Rattle.report_lines.proofs.subframes.put_refusals.Lts as lts
-use Rattle.console.proofs.put.cursor_in.Reads as cursor-in-reads
-use Rattle.report_lines.proofs.subframes.put_times.Reads as put-times-reads
 
 abbrev Inv-loop : tie.InvT-loop
 Inv-loop room₀ at kind counts n₀ i₀ room n i = (length room ≡ length room₀) × (n ≤ length room) × (i ≤ 40)
