@@ -7,6 +7,7 @@ use log_files::accounts::nth;
 use log_files::heard::Heard;
 use report_lines::rows::put_head;
 use report_lines::rows::put_lines;
+use table_form::ROOMS;
 use table_form::TABLE_SIZE;
 use table_form::ledger_for;
 
@@ -45,6 +46,25 @@ fn put_nth(
     put_lines(room, at, b',', named(a.count, p.prn), ledger, issues)
 }
 
+// The rows of all PRNs, in the order given.
+fn put_rows(
+    room: &mut [u8],
+    at: usize,
+    table: &[u8; TABLE_SIZE],
+    issues: &[u16; 255],
+    a: Accounts,
+) -> usize
+    ensures { λ r. ⌜ Counts r (now (room .exit)) ⌝ }
+{
+    let mut n = cursor_in(room, at);
+    let mut i: usize = 0;
+    while i < ROOMS {
+        n = put_nth(room, n, i, table, issues, a);
+        i += 1;
+    }
+    n
+}
+
 // The table, with the rows of all PRNs in the order given.
 fn put_table(
     room: &mut [u8],
@@ -56,10 +76,7 @@ fn put_table(
     ensures { λ r. ⌜ Counts r (now (room .exit)) ⌝ }
 {
     let b = put_first(room, at, a.count);
-    let c = put_nth(room, b, 0, table, issues, a);
-    let d = put_nth(room, c, 1, table, issues, a);
-    let e = put_nth(room, d, 2, table, issues, a);
-    put_nth(room, e, 3, table, issues, a)
+    put_rows(room, b, table, issues, a)
 }
 
 // The table, if it is asked for.

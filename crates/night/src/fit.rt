@@ -4,10 +4,8 @@ ghost use Rattle.io.specs.Counts.{Counts};
 use crate::options::NONE;
 use crate::options::Options;
 use console::put::cursor_in;
-use console::put::put_byte;
 use console::put::put_bytes;
-use console::put::put_field;
-use console::put::put_number;
+use console::put::put_text;
 use log::epochs::Epochs;
 use row::RowAnswer;
 use row::slot_row;
@@ -105,18 +103,16 @@ fn put_start(room: &mut [u8], at: usize, prn: u8) -> usize
     if prn == 0 {
         return put_bytes(room, at, b"unfit");
     }
-    let a = put_bytes(room, at, b"prn ");
-    let b = put_number(room, a, prn as u64);
-    put_bytes(room, b, b" unfit")
+    let numbers = [prn as u64];
+    put_text(room, at, b"prn # unfit", &numbers)
 }
 
 // A line: what was found, and the limit.
-fn put_limit(room: &mut [u8], at: usize, word: &[u8], x: u64, side: &[u8], limit: u64) -> usize
+fn put_limit(room: &mut [u8], at: usize, prn: u8, text: &[u8], numbers: &[u64]) -> usize
     ensures { λ r. ⌜ Counts r (now (room .exit)) ⌝ }
 {
-    let b = put_field(room, at, word, x);
-    let c = put_field(room, b, side, limit);
-    put_byte(room, c, 10)
+    let a = put_start(room, at, prn);
+    put_text(room, a, text, numbers)
 }
 
 // The line of the rows.
@@ -124,8 +120,8 @@ fn put_few(room: &mut [u8], at: usize, f: Found, o: Options) -> usize
     ensures { λ r. ⌜ Counts r (now (room .exit)) ⌝ }
 {
     if is_few(f, o) {
-        let a = put_start(room, at, f.prn);
-        return put_limit(room, a, b"rows", f.rows as u64, b"below", o.rows as u64);
+        let numbers = [f.rows as u64, o.rows as u64];
+        return put_limit(room, at, f.prn, b" rows # below #\n", &numbers);
     }
     cursor_in(room, at)
 }
@@ -134,14 +130,17 @@ fn put_few(room: &mut [u8], at: usize, f: Found, o: Options) -> usize
 fn put_refused(room: &mut [u8], at: usize, f: Found, o: Options) -> usize
     ensures { λ r. ⌜ Counts r (now (room .exit)) ⌝ }
 {
-    if !is_refused(f, o) {
-        return cursor_in(room, at);
+    if is_refused(f, o) {
+        let numbers = [f.refused, f.all, o.percent as u64];
+        return put_limit(
+            room,
+            at,
+            f.prn,
+            b" refused # of # above # percent\n",
+            &numbers,
+        );
     }
-    let a = put_start(room, at, f.prn);
-    let b = put_field(room, a, b"refused", f.refused);
-    let c = put_field(room, b, b"of", f.all);
-    let d = put_field(room, c, b"above", o.percent as u64);
-    put_bytes(room, d, b" percent\n")
+    cursor_in(room, at)
 }
 
 // The line of the oldest clock.
@@ -149,8 +148,8 @@ fn put_old(room: &mut [u8], at: usize, f: Found, o: Options) -> usize
     ensures { λ r. ⌜ Counts r (now (room .exit)) ⌝ }
 {
     if is_old(f, o) {
-        let a = put_start(room, at, f.prn);
-        return put_limit(room, a, b"age", f.age as u64, b"above", o.age as u64);
+        let numbers = [f.age as u64, o.age as u64];
+        return put_limit(room, at, f.prn, b" age # above #\n", &numbers);
     }
     cursor_in(room, at)
 }
@@ -160,8 +159,8 @@ fn put_torn(room: &mut [u8], at: usize, f: Found, o: Options) -> usize
     ensures { λ r. ⌜ Counts r (now (room .exit)) ⌝ }
 {
     if is_torn(f, o) {
-        let a = put_start(room, at, f.prn);
-        return put_limit(room, a, b"gap", f.gap as u64, b"above", o.gap as u64);
+        let numbers = [f.gap as u64, o.gap as u64];
+        return put_limit(room, at, f.prn, b" gap # above #\n", &numbers);
     }
     cursor_in(room, at)
 }

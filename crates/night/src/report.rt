@@ -13,6 +13,7 @@ use report_lines::held::put_epochs;
 use report_lines::held::put_list;
 use report_lines::held::put_mask;
 use report_lines::subframes::put_subframes;
+use table_form::ROOMS;
 use table_form::TABLE_SIZE;
 use table_form::ledger_for;
 
@@ -59,7 +60,27 @@ fn put_nth(
     put_ledger(room, c, ledger, &issues, p, o)
 }
 
-// The reports of all PRNs, in the order given, unless the table stands alone.
+// The reports of all PRNs, in the order given.
+fn put_all(
+    room: &mut [u8],
+    at: usize,
+    table: &[u8; TABLE_SIZE],
+    refused: &[u64; REFUSED],
+    heard: Heard,
+    o: Options,
+) -> usize
+    ensures { λ r. ⌜ Counts r (now (room .exit)) ⌝ }
+{
+    let mut n = cursor_in(room, at);
+    let mut i: usize = 0;
+    while i < ROOMS {
+        n = put_nth(room, n, i, table, refused, heard, o);
+        i += 1;
+    }
+    n
+}
+
+// The reports of all PRNs, unless the table stands alone.
 pub(crate) fn put_reports(
     room: &mut [u8],
     at: usize,
@@ -73,8 +94,5 @@ pub(crate) fn put_reports(
     if o.csv {
         return cursor_in(room, at);
     }
-    let a = put_nth(room, at, 0, table, refused, heard, o);
-    let b = put_nth(room, a, 1, table, refused, heard, o);
-    let c = put_nth(room, b, 2, table, refused, heard, o);
-    put_nth(room, c, 3, table, refused, heard, o)
+    put_all(room, at, table, refused, heard, o)
 }
