@@ -1,4 +1,6 @@
 // Why a satellite of the mask in force has no row in the list.
+#![tactic(auto)]
+
 ghost use Rattle.std.specs.Prelude.{◌≡◌};
 ghost use Rattle.absent.specs.Why.{why_of, why_held};
 
@@ -8,7 +10,7 @@ use row::{is_known, is_usable};
 use slots::Slot;
 
 // The reason, or Listed where there is none.
-#[derive(Drop)]
+#[derive(Clone, Copy)]
 pub enum Why {
     Listed,
     Orbit,

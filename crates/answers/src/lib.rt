@@ -1,4 +1,6 @@
 // What all calls for C share: the lengths of the forms, 39 for a lent slice of a wrong length, and all that a verdict says in one number.
+#![tactic(auto)]
+
 ghost use Rattle.std.specs.Prelude.{◌≡◌};
 ghost use Rattle.verdict.specs.Verdict.{says};
 ghost use Rattle.answers.specs.Detail.{detail_in};

@@ -1,4 +1,6 @@
 // Type 3 written: satellites, each with its code biases.
+#![tactic(auto)]
+
 ghost use Rattle.std.specs.Prelude.{◌≡◌, ℕ, ◌+◌, ◌<◌, get_or};
 ghost use Rattle.bits.specs.Bits.{puts_at, put_rows};
 ghost use Rattle.biases.specs.Biases.{sat_widths, bias_widths, blank_sat, no_bias};

@@ -1,25 +1,27 @@
 // Type 3: code biases of satellites.
+#![tactic(auto)]
+
 ghost use Rattle.std.specs.Prelude.{◌≡◌, ◌<◌};
 ghost use Rattle.biases.specs.Biases.{sat_at, bias_at, next_sat, bias_nth, sat_place, sats_at, biases_at, filled, stored, blank_sat, no_bias, sat_count, bias_part_at, bias_heads_at, bias_end, no_biases};
 
 use records::signed::signed12;
 
 // A satellite and how many biases it has.
-#[derive(Drop)]
+#[derive(Clone, Copy)]
 pub struct BiasSat {
     pub slot: u16,
     pub count: u8,
 }
 
 // Signal and tracking mode, and the bias, raw.
-#[derive(Drop)]
+#[derive(Clone, Copy)]
 pub struct Bias {
     pub mode: u8,
     pub value: i16,
 }
 
 // The part of a type 3: count satellites, and the biases of all of them, one behind the other.
-#[derive(Drop)]
+#[derive(Clone, Copy)]
 pub struct BiasPart {
     pub epoch: u32,
     pub ssr: u8,

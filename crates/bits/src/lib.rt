@@ -1,4 +1,6 @@
 // Bits and fields of bytes, high bit first. Bits past the end are 0.
+#![tactic(auto)]
+
 ghost use Rattle.std.specs.Prelude.{◌≡◌, ◌+◌, ◌-◌, ◌*◌, ◌/◌, ◌%◌, ◌<◌, ◌≤◌, ◌^◌, min, length, get_or};
 ghost use Rattle.bits.specs.Bits.{bit_at, field_at, got_at};
 

@@ -1,4 +1,6 @@
 // The broadcast list: 255 numbers, entry k for slot k.
+#![tactic(auto)]
+
 ghost use Rattle.std.specs.Prelude.{◌≡◌};
 ghost use Rattle.bits.specs.Some.{any_of};
 ghost use Rattle.broadcast.specs.Issues.{is_ill, issues_refusal};

@@ -1,4 +1,6 @@
 // Contents with all zero that their type does not carry: what is written, and what reading gives back.
+#![tactic(auto)]
+
 ghost use Rattle.std.specs.Prelude.{◌≡◌, ◌<◌, eqb};
 ghost use Rattle.bits.specs.Pick.{pick};
 ghost use Rattle.contents.specs.Parts.{no_mask};

@@ -1,4 +1,6 @@
 // The part of a type 3 with all zero that it does not carry: what is written, and what reading gives back.
+#![tactic(auto)]
+
 ghost use Rattle.std.specs.Prelude.{◌≡◌, ◌+◌, ◌<◌, ◌≤◌};
 ghost use Rattle.canonical_biases.specs.Canon.{canon_sat, canon_sats, bias_count, canon_bias, canon_row, canon_biases, bias_bits};
 

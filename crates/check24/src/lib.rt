@@ -1,4 +1,6 @@
 // The check of 24 bits (01, Parity and check bits) over a run of bits of a byte slice, 48 bits a turn, by a table.
+#![tactic(auto)]
+
 ghost use Rattle.std.specs.Prelude.{◌≡◌, ◌/◌, ◌%◌, ◌<◌, ◌^◌};
 ghost use Rattle.std.specs.Int.Bits.{bit_xor};
 ghost use Rattle.check24.specs.Check.{check_of, check_ok};

@@ -1,4 +1,6 @@
 // What a taken frame leaves in the bytes of a ledger: its clocks.
+#![tactic(auto)]
+
 ghost use Rattle.std.specs.Prelude.{◌≡◌, true};
 ghost use Rattle.held_clocks.specs.Clocks.{replace_clocks};
 ghost use Rattle.held_mask.specs.Mask.{mask_at};

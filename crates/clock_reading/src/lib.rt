@@ -1,4 +1,6 @@
 // Reading a clock part, where its message begins at any bit.
+#![tactic(auto)]
+
 ghost use Rattle.std.specs.Prelude.{◌≡◌, ◌+◌, ◌<◌, ◌≤◌};
 ghost use Rattle.contents.specs.Parts.{clock_nth, clocks_at, clocks_in, contents_at};
 

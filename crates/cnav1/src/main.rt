@@ -1,6 +1,8 @@
 // cnav1 FILE: one line for each B-CNAV1 subframe 2 of 75 bytes, its fields as raw numbers, or `refused 36`.
 // FILE has one subframe after the other, the 600 bits before the coding, high bit first; - is standard input. What is left at its end is one more,
 // refused 35. Numbers that 001 marks as two's complement have a minus sign below 0.
+#![tactic(auto)]
+
 mod lines;
 mod reading;
 

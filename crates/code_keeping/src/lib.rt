@@ -1,4 +1,6 @@
 // What a taken frame leaves in the bytes of a ledger: its URA codes.
+#![tactic(auto)]
+
 ghost use Rattle.std.specs.Prelude.{◌≡◌};
 ghost use Rattle.held_mask.specs.Mask.{mask_at};
 ghost use Rattle.places.specs.Keeps.{held_code, codes_of};

@@ -1,4 +1,6 @@
 // Type 5 written: URA codes by place.
+#![tactic(auto)]
+
 ghost use Rattle.std.specs.Prelude.{◌≡◌, ◌<◌};
 ghost use Rattle.bits.specs.Bits.{put_rows};
 ghost use Rattle.fitting.specs.Fits.{all_fit};

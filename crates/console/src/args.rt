@@ -5,7 +5,7 @@ ghost use Rattle.io.specs.Counts.{IsPrefixLen};
 use crate::words::{Number, number_of, same};
 
 // The program's own arguments have the numbers from first up to count; status_on is the descriptor that takes its status, -1 where there is none.
-#[derive(Drop)]
+#[derive(Clone, Copy)]
 pub struct Args {
     pub first: usize,
     pub count: usize,

@@ -5,7 +5,7 @@ ghost use Rattle.console.specs.Lines.{Inside};
 use crate::input::read_on;
 
 // A line stands in the room; the input has ended; a line is longer than 65536 bytes, or than the room; a read failed.
-#[derive(Drop)]
+#[derive(Clone, Copy)]
 pub enum Step {
     Line,
     End,
@@ -15,7 +15,7 @@ pub enum Step {
 
 // The line is room[start..end], without its line end (LF, or CR LF); what was read after it is room[next..to]. Lines are counted from 1. A line
 // that is too long has no text here; next is 0 where its end was not read yet.
-#[derive(Drop)]
+#[derive(Clone, Copy)]
 pub struct Lines {
     pub step: Step,
     pub start: usize,

@@ -16,7 +16,7 @@ pub const ENDED: u8 = 2;
 pub const WRONG: u8 = 3;
 
 // Whether this pass writes, the number of the line, and how much was written before it.
-#[derive(Drop)]
+#[derive(Clone, Copy)]
 pub struct Pass {
     pub writes: bool,
     pub number: u64,

@@ -5,21 +5,21 @@ ghost use Rattle.console.specs.Words.{value_of, size_of};
 use crate::put::cursor_in;
 
 // The bytes of a line from one position to another; no word where the two are one.
-#[derive(Drop)]
+#[derive(Clone, Copy)]
 pub struct Word {
     pub from: usize,
     pub to: usize,
 }
 
 // A number, or no number.
-#[derive(Drop)]
+#[derive(Clone, Copy)]
 pub enum Number {
     Value(u32),
     Nothing,
 }
 
 // A raw value, or no number.
-#[derive(Drop)]
+#[derive(Clone, Copy)]
 pub enum Raw {
     Value(i16),
     Nothing,

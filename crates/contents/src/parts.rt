@@ -8,7 +8,7 @@ use records::orbit::Orbit;
 use ura_codes::CodePart;
 
 // Type 1: the mask's 255 bits in 32 bytes, slot 1 the high bit of the first; the last bit is 0.
-#[derive(Drop)]
+#[derive(Clone, Copy)]
 pub struct MaskPart {
     pub epoch: u32,
     pub ssr: u8,
@@ -17,7 +17,7 @@ pub struct MaskPart {
 }
 
 // Types 4, 6 and 7: start is the sub-type in type 4, Slot_S in type 6.
-#[derive(Drop)]
+#[derive(Clone, Copy)]
 pub struct ClockPart {
     pub epoch: u32,
     pub ssr: u8,
@@ -28,7 +28,7 @@ pub struct ClockPart {
 }
 
 // Types 2, 6 and 7.
-#[derive(Drop)]
+#[derive(Clone, Copy)]
 pub struct OrbitPart {
     pub epoch: u32,
     pub ssr: u8,
@@ -37,7 +37,7 @@ pub struct OrbitPart {
 }
 
 // What a message says. A part that its type lacks is all zero.
-#[derive(Drop)]
+#[derive(Clone, Copy)]
 pub struct Contents {
     pub kind: u8,
     pub mask: MaskPart,

@@ -6,7 +6,7 @@ ghost use Rattle.d1_subframes.specs.Subframe.{frame_of, second_of};
 use console::put::{cursor_in, put_bytes};
 
 // Bytes, and whether they were well formed.
-#[derive(Drop)]
+#[derive(Clone, Copy)]
 pub(crate) struct Data {
     pub good: bool,
     pub bytes: [u8; 28],

@@ -1,4 +1,6 @@
 // d1 [-w] FILE: one line for each D1 or D2 subframe of 38 bytes; with -w the subframe of each such line, on standard output.
+#![tactic(auto)]
+
 mod faults;
 mod fields;
 mod reading;

@@ -8,28 +8,28 @@ use console::turns::{ENDED, NOTHING, Pass, WRITTEN, WRONG, counted};
 use console::words::{Number, next_word, number_of, same};
 
 // The position after the last word that is as expected, and the number of the first word that is not, 0 where all are.
-#[derive(Drop)]
+#[derive(Clone, Copy)]
 struct Cursor {
     at: usize,
     fault: u8,
 }
 
 // A cursor and the number read before it.
-#[derive(Drop)]
+#[derive(Clone, Copy)]
 struct Got {
     cursor: Cursor,
     value: u32,
 }
 
 // A cursor and the data read before it.
-#[derive(Drop)]
+#[derive(Clone, Copy)]
 struct GotData {
     cursor: Cursor,
     data: [u8; 28],
 }
 
 // A line that was read.
-#[derive(Drop)]
+#[derive(Clone, Copy)]
 struct Line {
     cursor: Cursor,
     frame: u32,

@@ -1,4 +1,6 @@
 // Subframes of the D1 and D2 messages (003, section 5.2.2): 38 bytes of ten words against the 28 bytes of their information bits.
+#![tactic(auto)]
+
 ghost use Rattle.std.specs.Prelude.{◌≡◌, false, ◌*◌, ◌<◌};
 ghost use Rattle.bits.specs.Bits.{field_at};
 ghost use Rattle.verdict.specs.Verdict.{says, refused_by};

@@ -1,4 +1,6 @@
 // Words of the D1 and D2 messages (003, section 5.1.3): BCH(15,11,1) code words, alone and two interleaved.
+#![tactic(auto)]
+
 ghost use Rattle.std.specs.Prelude.{◌≡◌, ◌<◌, get_or};
 ghost use Rattle.d1_words.specs.Code.{word_shifted, remainder_of, code_word, masks, corrected};
 ghost use Rattle.d1_words.specs.Word.{spread, every_other, interleaved, written_word, read_word, written_first, read_first};

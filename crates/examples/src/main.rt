@@ -1,6 +1,8 @@
 // Runs 01's examples, of the field, the check, the code word of 000's appendix, messages, and ledgers that take
 // frames, and 02's of the correction sheet. The frames are files, one for each case; tests/outside/make_examples.c says
 // what each must give, and why.
+#![tactic(auto)]
+
 ghost use Rattle.std.specs.Prelude.{◌<◌};
 
 mod ask;

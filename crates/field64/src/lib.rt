@@ -1,4 +1,6 @@
 // The field of 64 (01, Parity and check bits), primitive polynomial 1 + x + x^6, vector form.
+#![tactic(auto)]
+
 ghost use Rattle.std.specs.Prelude.{◌≡◌, ◌<◌};
 ghost use Rattle.field64.specs.Field.{product};
 ghost use Rattle.field64.specs.Logarithms.{logs, powers, product_by};

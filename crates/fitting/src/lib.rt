@@ -1,4 +1,6 @@
 // Values held against the widths of their fields, and the head of a part put.
+#![tactic(auto)]
+
 ghost use Rattle.std.specs.Prelude.{◌≡◌, ◌^◌, ltb};
 ghost use Rattle.std.specs.Int.Signed.{mag};
 ghost use Rattle.bits.specs.Bits.{puts_at};

@@ -1,4 +1,6 @@
 // The parts of types 3 and 5 as bytes at the C boundary: include/quieuvodan.h. Numbers are high byte first; bytes past the end are 0, or lost.
+#![tactic(auto)]
+
 ghost use Rattle.std.specs.Prelude.{◌≡◌, ◌++◌, ◌<◌};
 ghost use Rattle.bits.specs.Bytes.{store_at, row_at};
 ghost use Rattle.flat_numbers.specs.Rows.{rows_to};

@@ -1,4 +1,6 @@
 // Numbers with a sign as bytes say them: two's complement.
+#![tactic(auto)]
+
 ghost use Rattle.std.specs.Prelude.{◌≡◌};
 ghost use Rattle.records.specs.Signed.{raw_half, signed_half};
 

@@ -1,4 +1,6 @@
 // The fields of subframe 2 of B-CNAV1 as bytes at the C boundary: include/quieuvodan.h.
+#![tactic(auto)]
+
 ghost use Rattle.std.specs.Prelude.{◌≡◌, ◌^◌};
 ghost use Rattle.bits.specs.Bytes.{store_at};
 ghost use Rattle.records.specs.Signed.{raw_half};

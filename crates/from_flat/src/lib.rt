@@ -1,4 +1,6 @@
 // Contents from the bytes that include/quieuvodan.h fixes, for C and Rust; bytes past the end are 0.
+#![tactic(auto)]
+
 ghost use Rattle.std.specs.Prelude.{◌≡◌, ◌<◌};
 ghost use Rattle.bits.specs.Bytes.{row_at};
 ghost use Rattle.from_flat.specs.Read.{flat_clock_at, flat_clocks_at, flat_orbit_at, flat_orbits_at, flat_mask_in, flat_clocks_in, flat_orbits_in, flat_contents_of};

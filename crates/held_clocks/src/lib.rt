@@ -1,4 +1,6 @@
 // The clocks that a ledger keeps, as lent bytes: docs/FORM.md. Any bytes are such a form; bytes past the end are 0.
+#![tactic(auto)]
+
 ghost use Rattle.std.specs.Prelude.{◌≡◌};
 ghost use Rattle.bits.specs.Bytes.{store_at};
 ghost use Rattle.held_clocks.specs.Clocks.{no_clock, held_clock_bytes, clock_offset, clock_replaces, held_clock_of, held_clock_at, clock_target, put_clock, replace_clock, drop_clock, dropped_clocks};
@@ -7,7 +9,7 @@ use newest::Stamp;
 use slots::Slot;
 
 // A clock as it is kept: its part's epoch and IOD SSR, and whether it came by place. C0 is raw.
-#[derive(Drop)]
+#[derive(Clone, Copy)]
 pub struct HeldClock {
     pub has: bool,
     pub placed: bool,

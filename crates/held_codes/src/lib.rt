@@ -1,11 +1,13 @@
 // The URA codes that a ledger keeps, each in place of that of a slot's orbit, as lent bytes: docs/FORM.md. Any bytes are such a form; bytes past the end are 0.
+#![tactic(auto)]
+
 ghost use Rattle.std.specs.Prelude.{◌≡◌, replicate};
 ghost use Rattle.held_codes.specs.Codes.{no_code, held_code_bytes, code_offset, held_code_at, put_code, drop_code, cleared_codes};
 
 use slots::Slot;
 
 // A code as it is kept.
-#[derive(Drop)]
+#[derive(Clone, Copy)]
 pub struct HeldCode {
     pub has: bool,
     pub code: u8,

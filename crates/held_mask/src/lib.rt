@@ -1,4 +1,6 @@
 // The mask that a ledger keeps, as lent bytes: docs/FORM.md. Any bytes are such a form; bytes past the end are 0.
+#![tactic(auto)]
+
 ghost use Rattle.std.specs.Prelude.{◌≡◌};
 ghost use Rattle.contents.specs.Parts.{bits_of};
 ghost use Rattle.mask_bits.specs.Bits.{bits_at};

@@ -1,4 +1,6 @@
 // The orbits that a ledger keeps, as lent bytes: docs/FORM.md. Any bytes are such a form; bytes past the end are 0.
+#![tactic(auto)]
+
 ghost use Rattle.std.specs.Prelude.{◌≡◌};
 ghost use Rattle.bits.specs.Bytes.{store_at};
 ghost use Rattle.held_orbits.specs.Orbits.{no_orbit, held_orbit_bytes, orbit_offset, orbit_replaces, held_orbit_of, orbit_target, held_orbit_at, orbit_comes, replace_orbit};
@@ -8,7 +10,7 @@ use slots::Slot;
 use ura::{Ura, held_ura, ura_kind, ura_quarters};
 
 // An orbit as it is kept: its part's epoch and IOD SSR. Radial, along and cross are raw.
-#[derive(Drop)]
+#[derive(Clone, Copy)]
 pub struct HeldOrbit {
     pub has: bool,
     pub epoch: u32,

@@ -9,7 +9,7 @@ use console::say::{say_found, say_where};
 use console::words::{Number, next_word, number_of, text_start};
 
 // What a line gives: nothing, a slot's issue, or a fault by its number, with the word that is wrong: from one position of the line to another.
-#[derive(Drop)]
+#[derive(Clone, Copy)]
 enum Given {
     Nothing,
     Issue(u8, u16),

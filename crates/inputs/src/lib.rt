@@ -1,5 +1,7 @@
 // What programs read besides their options: files by name, the issues of the broadcast messages, and lines of frames and subframes in
 // hexadecimal digits.
+#![tactic(auto)]
+
 pub mod ends;
 pub mod files;
 pub mod heard;

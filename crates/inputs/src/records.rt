@@ -25,7 +25,7 @@ pub const NO_DIGITS: u8 = 6;
 pub const NO_END: u8 = 7;
 
 // What a line is, the BeiDou satellite that it names, 0 where it names none, and a word of it: its digits, or the word that is wrong.
-#[derive(Drop)]
+#[derive(Clone, Copy)]
 pub struct Record {
     pub kind: u8,
     pub prn: u8,

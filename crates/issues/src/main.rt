@@ -7,6 +7,8 @@
 //   -i ISSUES   the issues that stand before the first line; none is no issues, as without -i, and a file called none is ./none
 //
 // Status: 0 well, also where subframes were refused; 1 an error said on standard error, and nothing is written; 2 usage.
+#![tactic(auto)]
+
 mod list;
 mod reading;
 

@@ -1,4 +1,6 @@
 // The broadcast issue of a BeiDou satellite, its IODC, put into the broadcast list.
+#![tactic(auto)]
+
 ghost use Rattle.std.specs.Prelude.{◌≡◌};
 ghost use Rattle.verdict.specs.Verdict.{says, refused_by};
 ghost use Rattle.joining.specs.Join.{join_refusal, joined};

@@ -1,4 +1,6 @@
 // What is wrong with contents: 01's refusals 8 to 12. Reading and writing judge by this alone; 9 goes by where the parts end, which is said.
+#![tactic(auto)]
+
 ghost use Rattle.std.specs.Prelude.{◌≡◌, ◌<◌};
 ghost use Rattle.judge.specs.Judge.{is_kind, is_late, late, bad_start, refusal_by, refusal_of, mask_refusal_of, parts_refusal_of, biases_refusal_of, codes_refusal_of};
 

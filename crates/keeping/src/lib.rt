@@ -1,4 +1,6 @@
 // What a taken frame leaves in the bytes of a ledger: its mask, or its orbits. The laws that clocks and codes by place share stand here too.
+#![tactic(auto)]
+
 ghost use Rattle.std.specs.Prelude.{◌≡◌};
 ghost use Rattle.bits.specs.Pick.{pick};
 ghost use Rattle.held_clocks.specs.Clocks.{dropped_clocks};

@@ -1,9 +1,11 @@
 // What a type carries and how wide: 01, "Message fields, in order".
+#![tactic(auto)]
+
 ghost use Rattle.std.specs.Prelude.{◌≡◌, false};
 ghost use Rattle.layout.specs.Layout.{layout_of, orbits_from, end_of};
 
 // How many records a message has, the bits in front of its parts, and the widths of the fields that only some types have.
-#[derive(Drop)]
+#[derive(Clone, Copy)]
 pub struct Layout {
     pub mask: bool,
     pub head: u8,

@@ -1,4 +1,6 @@
 // A ledger for one PRN in bytes that the caller lends: frames are taken into it, one by one or a whole log at once.
+#![tactic(auto)]
+
 pub mod open;
 pub mod replay;
 pub mod take;

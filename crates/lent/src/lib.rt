@@ -1,4 +1,6 @@
 // Bytes of lent room: read, stored, cleared, and the numbers that they say.
+#![tactic(auto)]
+
 ghost use Rattle.std.specs.Prelude.{◌≡◌, ◌+◌, ◌-◌, ◌≤◌, ◌<◌, length, get_or, replicate};
 ghost use Rattle.bits.specs.Bytes.{store_at};
 ghost use Rattle.lent.specs.Digits.{flag_of, zig_of, zag_of, pair_of, quad_of, two_at, four_at};

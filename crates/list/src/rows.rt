@@ -8,7 +8,7 @@ use row::{RowAnswer, slot_row};
 use slots::Slot;
 
 // A number of rows, or one of 01's refusal numbers.
-#[derive(Drop)]
+#[derive(Clone, Copy)]
 pub enum Count {
     Rows(u16),
     Refused(u8),

@@ -6,7 +6,7 @@ ghost use Rattle.frame.specs.Frame.{contents_of};
 ghost use Rattle.log.specs.Epochs.{epoch_of, no_epochs, lapse, longer, one_more, since_then, with_epoch, epochs_after, epoch_bit};
 
 // The epochs so far. Before the first, has is false and since counts all frames.
-#[derive(Drop)]
+#[derive(Clone, Copy)]
 pub struct Epochs {
     pub has: bool,
     pub first: u32,

@@ -4,7 +4,7 @@ use log::epochs::Epochs;
 use table_form::{ROOMS, room_of};
 
 // The account of a PRN: how many pieces were counted and taken, and the epochs of those taken.
-#[derive(Drop)]
+#[derive(Clone, Copy)]
 pub struct Account {
     pub prn: u8,
     pub all: u64,
@@ -13,7 +13,7 @@ pub struct Account {
 }
 
 // How many pieces there were and were taken in all, and the accounts of so many PRNs, in the order in which they were given.
-#[derive(Drop)]
+#[derive(Clone, Copy)]
 pub struct Accounts {
     pub all: u64,
     pub taken: u64,

@@ -10,7 +10,7 @@ use verdict::{Verdict, number_of};
 
 // How the logs are read: for several PRNs, or for one; as text. And what is said meanwhile: a line on standard output for each frame; no progress
 // lines.
-#[derive(Drop)]
+#[derive(Clone, Copy)]
 pub struct How {
     pub several: bool,
     pub mixed: bool,
@@ -19,7 +19,7 @@ pub struct How {
 }
 
 // What became of frames: the accounts, and whether all could be read and written.
-#[derive(Drop)]
+#[derive(Clone, Copy)]
 pub struct Outcome {
     pub accounts: Accounts,
     pub good: bool,

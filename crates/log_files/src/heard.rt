@@ -4,7 +4,7 @@ use crate::accounts::Accounts;
 // The accounts of the frames, the broadcast list, how often subframes 2 of B-CNAV1 and D1 subframes were taken (entry 0) and refused with each
 // number (entry n), and how many there were (entry 40); the lines that say something, and how many of them were bad. The state is 0 within a log, 1
 // at its end, and 2 where something could not be read or written, and it has been said what.
-#[derive(Drop)]
+#[derive(Clone, Copy)]
 pub struct Heard {
     pub accounts: Accounts,
     pub issues: [u16; 255],

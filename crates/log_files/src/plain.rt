@@ -8,14 +8,14 @@ use table_form::TABLE_SIZE;
 use tally::TALLY_SIZE;
 
 // After a piece: how long it was, and what became of it.
-#[derive(Drop)]
+#[derive(Clone, Copy)]
 struct Taken {
     length: usize,
     outcome: Outcome,
 }
 
 // After a turn: 0 to go on, 1 at the end, 2 where something failed.
-#[derive(Drop)]
+#[derive(Clone, Copy)]
 struct After {
     stream: Stream,
     accounts: Accounts,

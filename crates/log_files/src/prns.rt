@@ -8,7 +8,7 @@ use console::words::{Number, number_of};
 use table_form::TABLE_SIZE;
 
 // How far the argument is read: where the next word begins, whether there is one, and the PRNs so far.
-#[derive(Drop)]
+#[derive(Clone, Copy)]
 struct Reading {
     at: usize,
     more: bool,

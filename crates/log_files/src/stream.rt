@@ -7,7 +7,7 @@ use inputs::files::{close_named, open_named};
 
 // What was read and is not yet taken is room[from..to]. The open log has the descriptor fd, negative where none is open, and so many of its
 // bytes were read; the log that comes next is argument next of count.
-#[derive(Drop)]
+#[derive(Clone, Copy)]
 pub(crate) struct Stream {
     pub from: usize,
     pub to: usize,

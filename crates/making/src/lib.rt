@@ -1,4 +1,6 @@
 // Frames made from messages, and checked against them: 02, CR 9.
+#![tactic(auto)]
+
 ghost use Rattle.std.specs.Prelude.{◌≡◌, ◌<◌, length};
 ghost use Rattle.bits.specs.Table.{table};
 ghost use Rattle.verdict.specs.Verdict.{says, refused_by};

@@ -1,4 +1,6 @@
 // The bits of the mask that a ledger keeps, by slot: docs/FORM.md. Any bytes are such a form; bytes past the end are 0.
+#![tactic(auto)]
+
 ghost use Rattle.std.specs.Prelude.{◌≡◌};
 ghost use Rattle.mask_bits.specs.Bits.{bits_at, bit_at_slot};
 

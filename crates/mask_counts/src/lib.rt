@@ -1,4 +1,6 @@
 // How many bits of the mask that a ledger keeps are set: docs/FORM.md. Any bytes are such a form; bytes past the end are 0.
+#![tactic(auto)]
+
 ghost use Rattle.std.specs.Prelude.{◌≡◌, ◌+◌, ◌*◌, ◌<◌, ltb};
 ghost use Rattle.bits.specs.Table.{table};
 ghost use Rattle.contents.specs.Parts.{mask_bit_at};

@@ -1,4 +1,6 @@
 // Reading a mask part, where its message begins at any bit.
+#![tactic(auto)]
+
 ghost use Rattle.std.specs.Prelude.{◌≡◌, ◌+◌, ◌<◌};
 ghost use Rattle.contents.specs.Parts.{mask_byte_at, mask_bytes_at, mask_part_at, mask_in, contents_at};
 

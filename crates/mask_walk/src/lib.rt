@@ -1,4 +1,6 @@
 // The slots that have the places of the mask that a ledger keeps: docs/FORM.md. Any bytes are such a form; bytes past the end are 0.
+#![tactic(auto)]
+
 ghost use Rattle.std.specs.Prelude.{◌≡◌, false, ◌+◌, ◌*◌, ◌<◌, ◌≤◌, length, drop, get_or};
 ghost use Rattle.bits.specs.Table.{table};
 ghost use Rattle.contents.specs.Parts.{mask_bit_at};

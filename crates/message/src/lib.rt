@@ -1,4 +1,6 @@
 // Messages: the answer of reading one that begins at any bit, and one of 61 bytes.
+#![tactic(auto)]
+
 ghost use Rattle.std.specs.Prelude.{◌≡◌};
 ghost use Rattle.message.specs.Read.{reading_says, answer, read_at, read_message};
 
@@ -8,7 +10,7 @@ use reading::{contents_at, end_at};
 use verdict::Verdict;
 
 // The verdict with the contents beside it, which are all zero where it is a refusal.
-#[derive(Drop)]
+#[derive(Clone, Copy)]
 pub struct Reading {
     pub verdict: Verdict,
     pub contents: Contents,

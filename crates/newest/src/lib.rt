@@ -1,9 +1,11 @@
 // CR 3: whether a record replaces the one that is held for its slot.
+#![tactic(auto)]
+
 ghost use Rattle.std.specs.Prelude.{◌≡◌, eqb, get_or};
 ghost use Rattle.newest.specs.Newest.{is_newer, replaces, stamp_at};
 
 // What decides of a record: the IOD SSR and the epoch of its part, and its IOD Corr.
-#[derive(Drop)]
+#[derive(Clone, Copy)]
 pub struct Stamp {
     pub ssr: u8,
     pub corr: u8,

@@ -10,7 +10,7 @@ use slots::Slot;
 
 // What the limits are held against: how many rows, frames refused and frames in all, the age of the oldest clock of a row, the longest gap. A PRN
 // that is not 0 is named by each line.
-#[derive(Drop)]
+#[derive(Clone, Copy)]
 pub(crate) struct Found {
     pub prn: u8,
     pub rows: u32,

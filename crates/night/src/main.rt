@@ -19,6 +19,8 @@
 // which only whole frames with the right sync that carry this PRN count. The limits hold for each.
 //
 // Status: 0 well, 1 an error said on standard error, 2 usage, 3 unfit, also where one PRN alone is.
+#![tactic(auto)]
+
 mod before;
 mod csv;
 mod fit;

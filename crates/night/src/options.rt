@@ -4,7 +4,7 @@ use inputs::files::{is_arg, is_option};
 
 // What was asked for: a line for each frame, the table alone, no progress lines, mixed logs, and the limits; at is the argument after the options. Where
 // something is wrong with them, it has been said what.
-#[derive(Drop)]
+#[derive(Clone, Copy)]
 pub(crate) struct Options {
     pub each: bool,
     pub csv: bool,

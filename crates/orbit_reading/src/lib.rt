@@ -1,4 +1,6 @@
 // Reading an orbit part, where its message begins at any bit.
+#![tactic(auto)]
+
 ghost use Rattle.std.specs.Prelude.{◌≡◌, ◌+◌, ◌<◌, ◌≤◌};
 ghost use Rattle.contents.specs.Parts.{orbit_nth, orbits_at, orbit_part_at, orbits_in, contents_at};
 

@@ -5,7 +5,7 @@ use console::words::next_word;
 use records::clock::{Clock, blank_clock};
 
 // A clock record, the cursor after it, and whether there was one.
-#[derive(Drop)]
+#[derive(Clone, Copy)]
 struct ClockGot {
     cursor: Cursor,
     more: bool,
@@ -13,7 +13,7 @@ struct ClockGot {
 }
 
 // Clock records, how many, and the cursor after them.
-#[derive(Drop)]
+#[derive(Clone, Copy)]
 pub(crate) struct ClockList {
     pub cursor: Cursor,
     pub count: u8,

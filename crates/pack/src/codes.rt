@@ -4,7 +4,7 @@ use crate::fields::ura_of;
 use console::words::next_word;
 
 // The codes of a part, and the cursor after them.
-#[derive(Drop)]
+#[derive(Clone, Copy)]
 pub(crate) struct CodeList {
     pub cursor: Cursor,
     pub codes: [u8; 70],

@@ -5,7 +5,7 @@ use console::refusals::put_line;
 use console::words::{Number, next_word, number_of};
 
 // The position after the last word read, the number of the next word, and what was expected where that is not it (0: no fault).
-#[derive(Drop)]
+#[derive(Clone, Copy)]
 pub(crate) struct Cursor {
     pub at: usize,
     pub word: u32,
@@ -13,7 +13,7 @@ pub(crate) struct Cursor {
 }
 
 // A cursor and the number read before it.
-#[derive(Drop)]
+#[derive(Clone, Copy)]
 pub(crate) struct Got {
     pub cursor: Cursor,
     pub value: u32,

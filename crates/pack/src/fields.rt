@@ -8,20 +8,20 @@ use records::orbit::{Orbit, blank_orbit};
 use ura::Ura;
 
 // A record and whether it was well formed.
-#[derive(Drop)]
+#[derive(Clone, Copy)]
 pub(crate) struct ClockWord {
     pub good: bool,
     pub clock: Clock,
 }
 
-#[derive(Drop)]
+#[derive(Clone, Copy)]
 pub(crate) struct OrbitWord {
     pub good: bool,
     pub orbit: Orbit,
 }
 
 // A number of a record, where the next one begins, and whether all was well so far.
-#[derive(Drop)]
+#[derive(Clone, Copy)]
 pub(crate) struct Part {
     pub at: usize,
     pub good: bool,
@@ -158,7 +158,7 @@ pub(crate) fn slot_clock(w: &[u8]) -> ClockWord {
 }
 
 // A URA and whether it was well formed.
-#[derive(Drop)]
+#[derive(Clone, Copy)]
 pub(crate) struct UraWord {
     pub good: bool,
     pub ura: Ura,

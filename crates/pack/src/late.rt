@@ -6,13 +6,13 @@ use biases::BiasPart;
 use ura_codes::CodePart;
 
 // A part, and the cursor after it.
-#[derive(Drop)]
+#[derive(Clone, Copy)]
 pub(crate) struct BiasLine {
     pub cursor: Cursor,
     pub part: BiasPart,
 }
 
-#[derive(Drop)]
+#[derive(Clone, Copy)]
 pub(crate) struct CodeLine {
     pub cursor: Cursor,
     pub part: CodePart,

@@ -7,7 +7,7 @@ use contents::parts::{ClockPart, Contents, MaskPart, OrbitPart, no_clocks, no_ma
 use ura_codes::no_codes;
 
 // A line that was read.
-#[derive(Drop)]
+#[derive(Clone, Copy)]
 pub(crate) struct Line {
     pub cursor: Cursor,
     pub contents: Contents,

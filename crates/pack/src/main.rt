@@ -4,6 +4,8 @@
 // faulty. Blank lines and lines that begin with # are passed over. - is standard input.
 //
 // All of a file is written or nothing. What cannot be read twice is written as it is read, up to the first faulty line.
+#![tactic(auto)]
+
 mod clocks;
 mod codes;
 mod cursor;

@@ -5,7 +5,7 @@ use console::words::next_word;
 use records::orbit::{Orbit, blank_orbit};
 
 // An orbit record, the cursor after it, and whether there was one.
-#[derive(Drop)]
+#[derive(Clone, Copy)]
 struct OrbitGot {
     cursor: Cursor,
     more: bool,
@@ -13,7 +13,7 @@ struct OrbitGot {
 }
 
 // Orbit records, how many, and the cursor after them.
-#[derive(Drop)]
+#[derive(Clone, Copy)]
 pub(crate) struct OrbitList {
     pub cursor: Cursor,
     pub count: u8,

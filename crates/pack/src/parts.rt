@@ -9,19 +9,19 @@ use crate::slots::read_slots;
 use contents::parts::{ClockPart, MaskPart, OrbitPart, no_clocks, no_orbits};
 
 // A part, and the cursor after it.
-#[derive(Drop)]
+#[derive(Clone, Copy)]
 pub(crate) struct MaskLine {
     pub cursor: Cursor,
     pub part: MaskPart,
 }
 
-#[derive(Drop)]
+#[derive(Clone, Copy)]
 pub(crate) struct ClockLine {
     pub cursor: Cursor,
     pub part: ClockPart,
 }
 
-#[derive(Drop)]
+#[derive(Clone, Copy)]
 pub(crate) struct OrbitLine {
     pub cursor: Cursor,
     pub part: OrbitPart,
@@ -48,7 +48,7 @@ pub(crate) fn mask_part(s: &[u8], p: Cursor) -> MaskLine {
 }
 
 // IODP and the sub-type or the first place.
-#[derive(Drop)]
+#[derive(Clone, Copy)]
 struct Which {
     cursor: Cursor,
     iodp: u8,

@@ -5,7 +5,7 @@ use biases::{Bias, BiasSat};
 use console::words::{next_word, same};
 
 // The biases of a word, how many, and whether they were well formed.
-#[derive(Drop)]
+#[derive(Clone, Copy)]
 struct Row {
     good: bool,
     count: u8,
@@ -13,7 +13,7 @@ struct Row {
 }
 
 // A satellite, all biases so far, the cursor after it, and whether there was one.
-#[derive(Drop)]
+#[derive(Clone, Copy)]
 struct SatGot {
     cursor: Cursor,
     more: bool,
@@ -22,7 +22,7 @@ struct SatGot {
 }
 
 // Satellites, how many, their biases, and the cursor after them.
-#[derive(Drop)]
+#[derive(Clone, Copy)]
 pub(crate) struct SatList {
     pub cursor: Cursor,
     pub count: u8,

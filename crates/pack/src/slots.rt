@@ -3,7 +3,7 @@ use crate::cursor::{Cursor, Got, SLOT, failed, no_number, passed};
 use console::words::{Number, next_word, number_of};
 
 // The slots of a mask, and the cursor after them.
-#[derive(Drop)]
+#[derive(Clone, Copy)]
 pub(crate) struct SlotList {
     pub cursor: Cursor,
     pub bytes: [u8; 32],

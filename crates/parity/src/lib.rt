@@ -1,4 +1,6 @@
 // The parity check of a frame (01, Parity and check bits): 81 groups of four symbols.
+#![tactic(auto)]
+
 ghost use Rattle.std.specs.Prelude.{◌≡◌, ◌+◌, ◌*◌, ◌/◌, ◌%◌, ◌^◌, ◌<◌, length};
 ghost use Rattle.bits.specs.Bits.{field_at};
 ghost use Rattle.field64.specs.Padded.{pad_log, pad_logs, pad_powers};
@@ -108,7 +110,7 @@ fn fails(
 }
 
 // The first failing group, counted from 1, and how many fail; both 0 if none fails.
-#[derive(Drop)]
+#[derive(Clone, Copy)]
 pub struct Groups {
     pub first: u8,
     pub failing: u8,

@@ -1,4 +1,6 @@
 // 02, CR 9: the parity of a message's 81 symbols, by a walk along the ring of parity symbols.
+#![tactic(auto)]
+
 ghost use Rattle.std.specs.Prelude.{◌≡◌, ◌<◌, slice_index};
 ghost use Rattle.bits.specs.Table.{table};
 ghost use Rattle.field64.specs.Field.{product};

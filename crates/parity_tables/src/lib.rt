@@ -1,4 +1,6 @@
 // The two printed tables of the parity check (000, section 6.1.3): 81 groups of four positions and 81 of four factors.
+#![tactic(auto)]
+
 ghost use Rattle.std.specs.Prelude.{◌≡◌};
 ghost use Rattle.parity_tables.specs.Tables.{positions, factors};
 

@@ -1,4 +1,6 @@
 // The next piece of a log: frames are found by their sync and their parity, not counted off.
+#![tactic(auto)]
+
 ghost use Rattle.std.specs.Prelude.{◌≡◌, ◌≤◌, min};
 ghost use Rattle.pieces.specs.Pieces.{is_frame, stands_at, piece_length};
 

@@ -1,4 +1,6 @@
 // What one frame does under the mask in force: whether clocks or codes by place are refused (14, 15, 19), and how records are kept.
+#![tactic(auto)]
+
 ghost use Rattle.std.specs.Prelude.{◌≡◌};
 ghost use Rattle.verdict.specs.Verdict.{says};
 ghost use Rattle.held_mask.specs.Mask.{mask_at};

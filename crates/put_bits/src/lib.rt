@@ -1,4 +1,6 @@
 // Bits and fields put into bytes, high bit first. Bits past the end are lost.
+#![tactic(auto)]
+
 ghost use Rattle.std.specs.Prelude.{◌≡◌, ◌+◌, ◌<◌};
 ghost use Rattle.bits.specs.Bits.{set_bit, put_at, byte_with, puts_at};
 

@@ -1,4 +1,6 @@
 // The library at the C boundary: include/quieuvodan.h. Every function answers 0 or one refusal number; 39 is a lent slice of a wrong length.
+#![tactic(auto)]
+
 ghost use Rattle.std.specs.Prelude.{◌≡◌, length};
 ghost use Rattle.verdict.specs.Verdict.{says, number_in};
 ghost use Rattle.message.specs.Read.{reading_says};

@@ -1,4 +1,6 @@
 // Reading biases, codes and the whole contents of a message that begins at any bit, and where its parts end.
+#![tactic(auto)]
+
 ghost use Rattle.std.specs.Prelude.{◌≡◌, ◌+◌};
 ghost use Rattle.contents.specs.Parts.{contents_at, end_at};
 

@@ -1,4 +1,6 @@
 // The slots that records name: whether one is above 255, and whether one stands twice.
+#![tactic(auto)]
+
 ghost use Rattle.std.specs.Prelude.{◌≡◌, ◌+◌, ◌<◌, get_or, drop, length};
 ghost use Rattle.bits.specs.Some.{any_of};
 ghost use Rattle.judge.specs.Judge.{is_high, is_same, is_again, clock_slots, orbit_slots, sat_slots, is_named};
@@ -8,7 +10,7 @@ use records::clock::Clock;
 use records::orbit::Orbit;
 
 // What is wrong with some slots: whether one is above 255, and whether one that is not blank stands twice.
-#[derive(Drop)]
+#[derive(Clone, Copy)]
 pub struct SlotFaults {
     pub high: bool,
     pub again: bool,

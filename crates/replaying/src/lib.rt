@@ -1,4 +1,6 @@
 // A fresh ledger takes the frames of a log, and what is said of each is kept in lent room: the calls qvd_replay and qvd_replay_detail.
+#![tactic(auto)]
+
 ghost use Rattle.std.specs.Prelude.{◌≡◌, ◌+◌, ◌/◌, length};
 ghost use Rattle.verdict.specs.Verdict.{number_in};
 ghost use Rattle.in_force.specs.Bytes.{run_bytes, frames_of};

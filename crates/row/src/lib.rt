@@ -1,4 +1,6 @@
 // One satellite's row: whether it qualifies, and what its row says.
+#![tactic(auto)]
+
 ghost use Rattle.std.specs.Prelude.{◌≡◌};
 ghost use Rattle.bits.specs.Pick.{pick};
 ghost use Rattle.ura.specs.Ura.{ura_of};
@@ -11,7 +13,7 @@ use slots::{Slot, System};
 use ura::{Ura, ura_of};
 
 // A row of the list. Orbit values and clock in tenths of a millimetre.
-#[derive(Drop)]
+#[derive(Clone, Copy)]
 pub struct Row {
     pub slot: Slot,
     pub system: System,
@@ -26,7 +28,7 @@ pub struct Row {
 }
 
 // A row, or one of 01's refusal numbers.
-#[derive(Drop)]
+#[derive(Clone, Copy)]
 pub enum RowAnswer {
     Found(Row),
     Refused(u8),

@@ -1,2 +1,4 @@
 // The calls for C for rows: what each answers, and what each lent room then holds. Definitions and laws; no code of its own.
+#![tactic(auto)]
+
 ghost use Rattle.std.specs.Prelude.{◌≡◌};

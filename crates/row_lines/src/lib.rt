@@ -1,4 +1,6 @@
 // Rows as lines of a table: slot and satellite, numbers, values in metres and URA in millimetres, with a separator between them.
+#![tactic(auto)]
+
 ghost use Rattle.io.specs.Counts.{IsPrefixLen};
 
 use console::put::{cursor_in, put_byte, put_metres, put_number, put_ura_mm};

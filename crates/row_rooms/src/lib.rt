@@ -1,4 +1,6 @@
 // The rows of a ledger's list put into lent room as bytes, one after the other: the calls qvd_rows and qvd_row.
+#![tactic(auto)]
+
 ghost use Rattle.std.specs.Prelude.{◌≡◌, ◌+◌, ◌*◌, ◌<◌, length};
 ghost use Rattle.bits.specs.Bytes.{store_at};
 ghost use Rattle.row.specs.Row.{row_says};

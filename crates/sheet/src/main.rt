@@ -11,6 +11,8 @@
 //
 // Status: 0 well, also where a sheet that is read is refused; 1 an error said on standard error, and nothing is written, also where a list gives no
 // sheet; 2 usage; 3 a sheet that is checked is not accepted.
+#![tactic(auto)]
+
 ghost use Rattle.std.specs.Prelude.{◌≤◌};
 
 mod checking;

@@ -1,4 +1,6 @@
 // Checking a partner's sheet against a ledger and a broadcast list: 02, CR 10.
+#![tactic(auto)]
+
 ghost use Rattle.std.specs.Prelude.{◌≡◌, ◌≤◌, [], ◌∷◌, length};
 ghost use Rattle.lent.specs.Digits.{two_at};
 ghost use Rattle.broadcast.specs.Issues.{issue_of};
@@ -17,7 +19,7 @@ use ura::{Ura, ura_kind, ura_quarters};
 
 // How many of our rows an accepted sheet left out, a refusal number, the offset of refusal 23, or the number of a row that has an unknown slot, other
 // numbers, or a slot that an earlier row has.
-#[derive(Drop)]
+#[derive(Clone, Copy)]
 pub enum Checked {
     Accepted(u16),
     Refused(u8),

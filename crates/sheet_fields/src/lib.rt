@@ -1,4 +1,6 @@
 // The fields of a sheet, each put into what is left of the room.
+#![tactic(auto)]
+
 ghost use Rattle.std.specs.Prelude.{◌≡◌};
 ghost use Rattle.bits.specs.Bytes.{store_at};
 ghost use Rattle.sheet_form.specs.Layout.{header_field, row_field, end_field};

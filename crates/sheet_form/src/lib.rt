@@ -1,7 +1,8 @@
 // The correction sheet's form: 02, CR 7. What its header says; all else is in the definitions.
+#![tactic(auto)]
 
 // The content of a sheet's first field.
-#[derive(Drop)]
+#[derive(Clone, Copy)]
 pub struct Header {
     pub prn: u8,
     pub ssr: u8,

@@ -1,4 +1,6 @@
 // The sheet reader: 02, CR 7. It holds the lent sheet and its own place while the rows are walked. Nothing is asked of the bytes.
+#![tactic(auto)]
+
 ghost use Rattle.std.specs.Prelude.{◌≡◌};
 ghost use Rattle.sheet_reader.specs.Walk.{rows_end, next_says, next_found, place_after};
 
@@ -9,14 +11,14 @@ use sheet_reading::row_said;
 pub const FIRST_ROW: u32 = 8;
 
 // A lent sheet, and a place in it.
-#[derive(Drop)]
+#[derive(Clone, Copy)]
 pub struct SheetReader<'a> {
     pub sheet: &'a [u8],
     pub at: u32,
 }
 
 // The row at the reader's place, or done: no row is left.
-#[derive(Drop)]
+#[derive(Clone, Copy)]
 pub enum NextRow {
     Found(Row),
     Done,

@@ -1,4 +1,6 @@
 // Reading a correction sheet: 02, CR 7. Nothing is asked of the bytes.
+#![tactic(auto)]
+
 ghost use Rattle.std.specs.Prelude.{◌≡◌, ◌+◌, ◌≤◌, ◌<◌, length};
 ghost use Rattle.bits.specs.Bytes.{row_at};
 ghost use Rattle.lent.specs.Digits.{two_at, four_at};
@@ -11,7 +13,7 @@ use sheet_form::Header;
 use slots::Slot;
 
 // The header of a sheet that is read, or the offset of refusal 23.
-#[derive(Drop)]
+#[derive(Clone, Copy)]
 pub enum SheetRead {
     Read(Header),
     Wrong(u32),

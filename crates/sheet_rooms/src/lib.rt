@@ -1,4 +1,6 @@
 // What a sheet says put into lent room as bytes, its header and its rows: the call qvd_read_sheet.
+#![tactic(auto)]
+
 ghost use Rattle.std.specs.Prelude.{◌≡◌};
 ghost use Rattle.bits.specs.Bytes.{store_at};
 ghost use Rattle.sheet_form.specs.Reading.{rows_said_from};

@@ -1,4 +1,6 @@
 // Writing the correction sheet into a lent room: 02, CR 7.
+#![tactic(auto)]
+
 ghost use Rattle.std.specs.Prelude.{◌≡◌, ◌+◌, ◌*◌, ◌≤◌, length};
 ghost use Rattle.bits.specs.Bytes.{store_at};
 ghost use Rattle.broadcast.specs.Issues.{issues_refusal};
@@ -17,7 +19,7 @@ use slots::Slot;
 pub const MOST_ROWS: u16 = 174;
 
 // The length of the sheet that was written, or one of the refusal numbers.
-#[derive(Drop)]
+#[derive(Clone, Copy)]
 pub enum Sheet {
     Written(u16),
     Refused(u8),

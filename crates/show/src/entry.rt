@@ -6,7 +6,7 @@ use ura::Ura;
 
 // So many values, the first after a separator and the others after strokes, then an accuracy index after one of its own, which is 0 where there is
 // none; or a blank entry.
-#[derive(Drop)]
+#[derive(Clone, Copy)]
 pub(crate) struct Entry {
     pub blank: bool,
     pub before: u8,

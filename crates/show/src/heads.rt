@@ -8,7 +8,7 @@ use contents::parts::{ClockPart, Contents, MaskPart, OrbitPart};
 use ura_codes::CodePart;
 
 // The numbers of a part, in the order of its text, and how many entries it has.
-#[derive(Drop)]
+#[derive(Clone, Copy)]
 pub(crate) struct Head {
     pub numbers: [u64; 4],
     pub count: u8,

@@ -1,4 +1,6 @@
 // show [-f] FILE: one line for each message of 61 bytes, or for each frame of 125.
+#![tactic(auto)]
+
 mod entries;
 mod entry;
 mod heads;

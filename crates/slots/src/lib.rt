@@ -1,17 +1,19 @@
 // Slots, places and systems: 01, "Slots and places".
+#![tactic(auto)]
+
 ghost use Rattle.std.specs.Prelude.{◌≡◌};
 ghost use Rattle.slots.specs.Slots.{satellite_of, slot_named};
 
 // A slot number: 1 to 255; 0 names nothing.
-#[derive(Drop)]
+#[derive(Clone, Copy)]
 pub struct Slot(pub u8);
 
 // A place in the mask, counting its set bits from 1.
-#[derive(Drop)]
+#[derive(Clone, Copy)]
 pub struct Place(pub u16);
 
 // The system of a slot.
-#[derive(Drop)]
+#[derive(Clone, Copy)]
 pub enum System {
     Reserved,
     BeiDou,
@@ -21,7 +23,7 @@ pub enum System {
 }
 
 // A satellite by its system and its number there.
-#[derive(Drop)]
+#[derive(Clone, Copy)]
 pub struct Satellite {
     pub system: System,
     pub number: u8,

@@ -1,4 +1,6 @@
 // Subframe 2 of B-CNAV1 (001, figure 6-6): 75 bytes read to its 31 fields as raw numbers.
+#![tactic(auto)]
+
 ghost use Rattle.std.specs.Prelude.{◌≡◌, ◌*◌, ◌<◌, ◌^◌};
 ghost use Rattle.bits.specs.Bits.{field_at};
 ghost use Rattle.bits.specs.Table.{table};
@@ -22,7 +24,7 @@ const SIGNED: [bool; 31] = [
 ];
 
 // The verdict, and beside it the fields in the figure's order, all 0 where it is a refusal.
-#[derive(Drop)]
+#[derive(Clone, Copy)]
 pub struct Subframe2 {
     pub verdict: Verdict,
     pub fields: [i64; 31],

@@ -1,4 +1,6 @@
 // A table of four ledgers, each opened for one PRN: opened, closed, and frames taken by the ledger of their PRN. 02, CR 14.
+#![tactic(auto)]
+
 ghost use Rattle.std.specs.Prelude.{◌≡◌, ◌<◌, length, replicate};
 ghost use Rattle.verdict.specs.Verdict.{says, refused_by};
 ghost use Rattle.in_force.specs.Bytes.{fresh, take_says, take_bytes};

@@ -1,4 +1,6 @@
 // The form of a table of four ledgers, in bytes that the caller lends: 02, CR 14, and docs/FORM.md.
+#![tactic(auto)]
+
 ghost use Rattle.std.specs.Prelude.{◌≡◌};
 ghost use Rattle.table_form.specs.Table.{is_right, is_table, room_with, free_room, room_of, ledger_for};
 

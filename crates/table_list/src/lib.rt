@@ -1,4 +1,6 @@
 // The list of a PRN's ledger in a table, and its sheets: 02, CR 14.
+#![tactic(auto)]
+
 ghost use Rattle.std.specs.Prelude.{◌≡◌};
 ghost use Rattle.list.specs.Rows.{count_says};
 ghost use Rattle.row.specs.Row.{row_says};

@@ -1,4 +1,6 @@
 // A log, taken piece by piece into a table: each piece goes, as a frame, to the ledger of its PRN.
+#![tactic(auto)]
+
 ghost use Rattle.std.specs.Prelude.{◌≡◌, ◌&&◌, ◌||◌, ◌≤◌, ltb, length, take};
 ghost use Rattle.bits.specs.Pick.{pick};
 ghost use Rattle.pieces.specs.Pieces.{piece_length};
@@ -10,7 +12,7 @@ use pieces::piece_length;
 use verdict::{Verdict, number_of};
 
 // A step through a log: how many bytes the piece has, and the table's verdict on it.
-#[derive(Drop)]
+#[derive(Clone, Copy)]
 pub struct Step {
     pub length: u8,
     pub verdict: Verdict,

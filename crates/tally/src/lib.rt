@@ -1,4 +1,6 @@
 // The tally of refusal numbers, lent and counted up in place: 02, CR 14. C lends it as bytes of the form fixed in docs/FORM.md.
+#![tactic(auto)]
+
 ghost use Rattle.std.specs.Prelude.{◌≡◌, ◌≤◌, length};
 ghost use Rattle.tally.specs.Tally.{one_more, bytes_of, raised_of, tally_of, counted};
 
@@ -6,7 +8,7 @@ ghost use Rattle.tally.specs.Tally.{one_more, bytes_of, raised_of, tally_of, cou
 pub const TALLY_SIZE: usize = 160;
 
 // The counters by refusal number, 1 to 39; the first belongs to none.
-#[derive(Drop)]
+#[derive(Clone, Copy)]
 pub struct Tally {
     pub counts: [u32; 40],
 }

@@ -1,9 +1,11 @@
 // The accuracy index of an orbit record: 01, "URA".
+#![tactic(auto)]
+
 ghost use Rattle.std.specs.Prelude.{◌≡◌, ◌<◌};
 ghost use Rattle.ura.specs.Ura.{quarters_of, ura_of, code_from, code_of, kind_of, quarters_in, held_ura};
 
 // Code 0, codes 1 to 62 in quarter millimetres, code 63.
-#[derive(Drop)]
+#[derive(Clone, Copy)]
 pub enum Ura {
     Unknown,
     Quarters(u32),

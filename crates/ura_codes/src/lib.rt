@@ -1,9 +1,11 @@
 // Type 5: URA codes by place.
+#![tactic(auto)]
+
 ghost use Rattle.std.specs.Prelude.{◌≡◌, ◌<◌};
 ghost use Rattle.ura_codes.specs.Codes.{codes_at, code_part_at, no_codes};
 
 // The part of a type 5: a sub-type, and 70 URA codes, 8 x class + value each.
-#[derive(Drop)]
+#[derive(Clone, Copy)]
 pub struct CodePart {
     pub epoch: u32,
     pub ssr: u8,

@@ -1,10 +1,12 @@
 // The answer that every reader gives: taken, or refused with one of 01's numbers.
+#![tactic(auto)]
+
 ghost use Rattle.std.specs.Prelude.{◌≡◌};
 ghost use Rattle.verdict.specs.Verdict.{says, number_in, refused_by};
 
 // Taken, or refused: with one of 01's numbers alone, with 6 and the parity groups that fail (the first, from 1, and how many), or with 19
 // and the number of places that the mask has.
-#[derive(Drop)]
+#[derive(Clone, Copy)]
 pub enum Verdict {
     Taken,
     Refused(u8),

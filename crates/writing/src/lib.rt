@@ -1,4 +1,6 @@
 // Writing messages into a lent room of 61 bytes, by the rules of reading.
+#![tactic(auto)]
+
 ghost use Rattle.std.specs.Prelude.{◌≡◌, ◌+◌, ◌<◌, ◌≤◌, length};
 ghost use Rattle.bits.specs.Bits.{bit_at, put_rows};
 ghost use Rattle.records.specs.Orbit.{orbit_widths};
