@@ -3,7 +3,7 @@
 # status, no status, a crash, sources that are newer, a check that fails, a machine
 # of another kind, programs in dist/ of these sources and of others.
 stand=$folder/stand
-mkdir -p "$stand/crates/tool/src" "$stand/crates/ground/src" "$stand/crates/apart/src" "$stand/target/bin" "$stand/tools"
+mkdir -p "$stand/crates/tool/src" "$stand/crates/ground/src" "$stand/crates/apart/src" "$stand/tools"
 cp "$root/quieuvodan" "$root/KIT-ID" "$stand/"
 printf '# layers\nground:\napart:\ntool: ground io\n' >"$stand/crates.txt"
 printf '%s\n' '// tool [-x] WHAT: does what it is told.' '// -x: more of it.' '//' '// WHAT is a word.' 'mod tool;' '// not this' \
@@ -25,13 +25,14 @@ esac
 END
 cat >"$stand/tools/rt" <<'END'
 #!/usr/bin/env bash
-echo "$*" >>rt-called
+name=${PWD##*/}
+echo "$*" >>../../rt-called
 sleep "${SLOW:-0}"
-echo "rt: ground proved (unchanged since it was last proved)"
+echo "logic=proved functions=1"
 sleep "${SLOW:-0}"
-[ -z "${FAIL:-}" ] || { echo "error: a fact" && echo "rt: FAILED: tool" && exit 1; }
-echo "rt: tool proved (2 s)"
-[ -x "target/bin/$2" ] || { cp program "target/bin/$2" && chmod +x "target/bin/$2"; }
+[ -z "${FAIL:-}" ] || { echo "error: a fact" && echo "logic=not-proved" && exit 1; }
+echo "logic=proved functions=2"
+mkdir -p out && cp ../../program "out/$name" && chmod +x "out/$name"
 END
 # The program that stands in is a script: no emulator may run it, whatever machine this is.
 printf '#!/bin/sh\necho x86_64\n' >"$stand/tools/uname"
@@ -151,10 +152,10 @@ mkdir "$stand/crates/ground/proofs"
 for source in crates/ground/src/lib.rt crates/ground/proofs/Law.antt crates/tool/src/main.rt crates.txt KIT-ID; do
     cp "$stand/$source" "$folder/source" 2>/dev/null || : >"$folder/source"
     case $source in
-        crates.txt) sed -i 's/^ground:/ground: libc/' "$stand/$source" ;;
+        crates.txt) sed -i 's/^ground:/ground: io/' "$stand/$source" ;;
         *) echo '// another line' >>"$stand/$source" ;;
     esac
-    touch "$stand/target/bin/tool"
+    touch "$stand/crates/tool/out/tool"
     sleep 0.1
     touch "$stand/$source"
     stand tool status 0
@@ -180,9 +181,9 @@ FAIL=1 stand tool status 0
 status_is 1
 writes_nothing
 says '... building tool
-rt: ground proved (unchanged since it was last proved)
+logic=proved functions=1
 error: a fact
-rt: FAILED: tool
+logic=not-proved
 quieuvodan: tool could not be built'
 verdict "launcher: a check that fails" "$why"
 rm "$stand/tools/rt"
@@ -212,7 +213,7 @@ else
 fi
 
 # A machine of another kind, without an emulator, where nothing may be installed.
-touch "$stand/target/bin/tool"
+touch "$stand/crates/tool/out/tool"
 printf '#!/bin/sh\necho riscv64\n' >"$stand/tools/uname"
 printf '#!/bin/sh\necho 0\n' >"$stand/tools/id"
 printf '#!/bin/sh\necho "$*" >>%s/apt-called\nexit 1\n' "$stand" >"$stand/tools/apt-get"

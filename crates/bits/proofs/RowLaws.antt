@@ -31,6 +31,8 @@ field_puts_other s at (w ∷ ws) (v ∷ vs) at' n' (inr h) =
 pub fields_puts : (s : List ℕ) (at : ℕ) (ws vs : List ℕ) → at + total ws ≤ 8 * length s → Within ws vs → fields_at (puts_at s at ws vs) at ws ≡ vs
 unfolding puts_at
 fields_puts s at [] [] l f = refl
+fields_puts s at [] (v ∷ vs) l f = elim f [ ]
+fields_puts s at (w ∷ ws) [] l f = elim f [ ]
 fields_puts s at (w ∷ ws) (v ∷ vs) l f =
     ap₂ (λ (x : ℕ) (xs : List ℕ). x ∷ xs)
     (field_puts_other (put_at s at w v) (at + w) ws vs at w (inl (omega arith)) ∙ field_put s at w v (omega arith) ∙ mod-eq_of_lt f.0)

@@ -93,6 +93,8 @@ module _ (prn : ℕ) where
   pub mask_over_lem : (h : List (List ℕ)) (cs : List Contents) → Good prn h cs → Sound cs → mask_in_force prn h ≡ mask_over cs
   unfolding mask_in_force mask_by mask_over
   mask_over_lem [] [] G S = refl
+  mask_over_lem [] (c ∷ cs) G S = elim G [ ]
+  mask_over_lem (f ∷ h) [] G S = elim G [ ]
   mask_over_lem (f ∷ h) (c ∷ cs) G S = rw (mask_over_lem h cs G.2 S.2, read_good prn f c G.0 G.1 S.0, G.1)
 
   -- after such frames, a good shell is refused for its mask alone
@@ -106,16 +108,22 @@ module _ (prn : ℕ) where
   -- all of them are accepted
   pub taken_over : (h : List (List ℕ)) (cs : List Contents) → Good prn h cs → Sound cs → Taken prn h
   taken_over [] [] G S = tt
+  taken_over [] (c ∷ cs) G S = elim G [ ]
+  taken_over (f ∷ h) [] G S = elim G [ ]
   taken_over (f ∷ h) (c ∷ cs) G S = (accepted_over f h c cs G S, taken_over h cs G.2 S.2)
 
   orbit_over_lem : (h : List (List ℕ)) (cs : List Contents) (s : ℕ) → Good prn h cs → Sound cs → orbit_in_force prn h s ≡ orbit_over cs s
   unfolding orbit_in_force orbit_over orbit_by
   orbit_over_lem [] [] s G S = refl
+  orbit_over_lem [] (c ∷ cs) s G S = elim G [ ]
+  orbit_over_lem (f ∷ h) [] s G S = elim G [ ]
   orbit_over_lem (f ∷ h) (c ∷ cs) s G S = rw (accepted_over f h c cs G S, G.1, orbit_over_lem h cs s G.2 S.2)
 
   code_over_lem : (ms : List HeldMask) (h : List (List ℕ)) (cs : List Contents) (s : ℕ) → Good prn h cs → Sound cs → code_back prn ms h s ≡ code_over ms cs s
   unfolding code_back code_over code_made code_by orbit_by mask_by
   code_over_lem ms [] [] s G S = refl
+  code_over_lem ms [] (c ∷ cs) s G S = elim G [ ]
+  code_over_lem ms (f ∷ h) [] s G S = elim G [ ]
   code_over_lem ms (f ∷ h) (c ∷ cs) s G S =
       rw (
         accepted_over f h c cs G S,
@@ -129,6 +137,8 @@ module _ (prn : ℕ) where
   clock_over_lem : (ms : List HeldMask) (h : List (List ℕ)) (cs : List Contents) (s : ℕ) → Good prn h cs → Sound cs → clock_back prn ms h s ≡ clock_over ms cs s
   unfolding clock_back clock_over clock_by mask_by
   clock_over_lem ms [] [] s G S = refl
+  clock_over_lem ms [] (c ∷ cs) s G S = elim G [ ]
+  clock_over_lem ms (f ∷ h) [] s G S = elim G [ ]
   clock_over_lem ms (f ∷ h) (c ∷ cs) s G S =
       rw (
         accepted_over f h c cs G S,

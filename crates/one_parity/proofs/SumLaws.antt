@@ -70,7 +70,7 @@ sum_single f p (suc n) h =
     dite (ℕ_discrete p n)
     (λ e.
     rw (e, eq-eqb n n refl)
-    (ap (λ (x : ℕ). bit_xor x (f n)) (sum_ext _ (λ (k : ℕ). 0) n (λ k l. rw (ne_eqb n k (λ q. omega arith))) ∙ sum_zero n)))
+    (ap (λ (x : ℕ). bit_xor x (f n)) (sum_ext _ (λ (k : ℕ). 0) n (λ k l. rw (ne_eqb p k (λ q. omega arith))) ∙ sum_zero n)))
     (λ ne. rw (ne_eqb p n ne) (ap (λ (x : ℕ). bit_xor x 0) (sum_single f p n (omega arith)) ∙ xor_zero_r (f p)))
 
 -- ---- a sum by the entries where a is not zero

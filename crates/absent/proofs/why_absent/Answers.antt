@@ -1,4 +1,3 @@
-use borrow.Author.Rules.{rules}
 use Rattle.absent.proofs.why_absent.Goals as goal
 
 pub returns : goal.returns

@@ -1,4 +1,3 @@
-use borrow.Author.Rules.{rules}
 use borrow.Author.Tests.{not-true, not-false}
 use mathlib.Core.Path.{sym, ◌∙◌}
 use Rattle.absent.proofs.WhyLaws.{no_orbit_lem, no_clock, other_ssr, other_corr, no_ura, not_usable, other_issue, no_reason}
@@ -23,7 +22,7 @@ returns-then-not-o-ssr c =
     other_ssr a.ssr a.o a.k a.issue
     (not-false _ c.if-not-o.false)
     (not-false _ c.if-not-k.false)
-    (not-true _ c.if-not-o-ssr.true)
+    c.if-not-o-ssr.true
 
 pub returns-then-o-k : goal.returns-then-o-k
 returns-then-o-k c =
@@ -31,7 +30,7 @@ returns-then-o-k c =
     other_corr a.ssr a.o a.k a.issue
     (not-false _ c.if-not-o.false)
     (not-false _ c.if-not-k.false)
-    (not-false _ c.if-not-o-ssr.false)
+    c.if-not-o-ssr.false
     c.if-o-k.true
 
 pub returns-then-not-is_known : goal.returns-then-not-is_known
@@ -40,9 +39,9 @@ returns-then-not-is_known c =
     no_ura a.ssr a.o a.k a.issue
     (not-false _ c.if-not-o.false)
     (not-false _ c.if-not-k.false)
-    (not-false _ c.if-not-o-ssr.false)
+    c.if-not-o-ssr.false
     c.if-o-k.false
-    (sym c.is_known.ensures ∙ not-true _ c.if-not-is_known.true)
+    (sym c.is_known.ensures ∙ c.if-not-is_known.true)
 
 pub returns-then-not-is_usable : goal.returns-then-not-is_usable
 returns-then-not-is_usable c =
@@ -50,10 +49,10 @@ returns-then-not-is_usable c =
     not_usable a.ssr a.o a.k a.issue
     (not-false _ c.if-not-o.false)
     (not-false _ c.if-not-k.false)
-    (not-false _ c.if-not-o-ssr.false)
+    c.if-not-o-ssr.false
     c.if-o-k.false
-    (sym c.is_known.ensures ∙ not-false _ c.if-not-is_known.false)
-    (sym c.is_usable.ensures ∙ not-true _ c.if-not-is_usable.true)
+    (sym c.is_known.ensures ∙ c.if-not-is_known.false)
+    (sym c.is_usable.ensures ∙ c.if-not-is_usable.true)
 
 pub returns-then-o-issue : goal.returns-then-o-issue
 returns-then-o-issue c =
@@ -61,10 +60,10 @@ returns-then-o-issue c =
     other_issue a.ssr a.o a.k a.issue
     (not-false _ c.if-not-o.false)
     (not-false _ c.if-not-k.false)
-    (not-false _ c.if-not-o-ssr.false)
+    c.if-not-o-ssr.false
     c.if-o-k.false
-    (sym c.is_known.ensures ∙ not-false _ c.if-not-is_known.false)
-    (sym c.is_usable.ensures ∙ not-false _ c.if-not-is_usable.false)
+    (sym c.is_known.ensures ∙ c.if-not-is_known.false)
+    (sym c.is_usable.ensures ∙ c.if-not-is_usable.false)
     c.if-o-issue.true
 
 pub returns : goal.returns
@@ -73,8 +72,8 @@ returns c =
     no_reason a.ssr a.o a.k a.issue
     (not-false _ c.if-not-o.false)
     (not-false _ c.if-not-k.false)
-    (not-false _ c.if-not-o-ssr.false)
+    c.if-not-o-ssr.false
     c.if-o-k.false
-    (sym c.is_known.ensures ∙ not-false _ c.if-not-is_known.false)
-    (sym c.is_usable.ensures ∙ not-false _ c.if-not-is_usable.false)
+    (sym c.is_known.ensures ∙ c.if-not-is_known.false)
+    (sym c.is_usable.ensures ∙ c.if-not-is_usable.false)
     c.if-o-issue.false

@@ -1,4 +1,3 @@
-use borrow.Author.Rules.{rules}
 use Rattle.bias_writing.specs.Put.{biases_fit}
 use Rattle.bias_writing.proofs.biases_fit.Goals as goal
 

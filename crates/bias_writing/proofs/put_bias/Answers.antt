@@ -1,4 +1,3 @@
-use borrow.Author.Rules.{rules}
 use mathlib.Core.Path.{◌∙◌}
 use lib.ListN.{get_or}
 use Rattle.biases.specs.Biases.{no_bias}

@@ -1,4 +1,3 @@
-use borrow.Author.Rules.{rules}
 use Rattle.bias_writing.specs.Put.{biases_put}
 use Rattle.bias_writing.proofs.put_biases.Goals as goal
 

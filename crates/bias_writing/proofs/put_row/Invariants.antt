@@ -1,10 +1,7 @@
-use native.Mathlib.Omega.{arith}
-use borrow.Author.Rules.{rules}
 use Prim.Native.Nat.{ℕ, ◌+◌, ◌-◌, ◌≤◌}
-use mathlib.Core.Path.{◌≡◌, refl, sym, ◌∙◌}
+use mathlib.Core.Path.{◌≡◌}
 use lib.ListN.{length}
 use Rattle.bits.specs.Bits.{put_rows}
-use Rattle.bits.proofs.RowLaws.{rows_step, rows_none}
 use Rattle.biases.specs.Biases.{bias_widths}
 use Rattle.bias_writing.specs.Put.{bias_row}
 use Rattle.bias_writing.proofs.put_row.Given as goal

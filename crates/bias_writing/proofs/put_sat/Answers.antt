@@ -1,4 +1,3 @@
-use borrow.Author.Rules.{rules}
 use Rattle.bias_writing.proofs.StepLaws.{sat_made}
 use Rattle.bias_writing.proofs.put_sat.Goals as goal
 

@@ -1,12 +1,8 @@
-use native.Mathlib.Omega.{arith}
-use borrow.Author.Rules.{rules}
 use Prim.Native.Nat.{◌*◌, ◌-◌, ◌≤◌}
-use mathlib.Core.Path.{◌≡◌, refl, ◌∙◌}
+use mathlib.Core.Path.{◌≡◌}
 use lib.ListN.{length}
 use Rattle.canonical_biases.specs.Canon.{bias_count}
-use Rattle.canonical_biases.proofs.CountLaws.{count_none, count_step}
 use Rattle.bias_writing.specs.Put.{sats_put}
-use Rattle.bias_writing.proofs.StepLaws.{sats_none, sats_step}
 use Rattle.bias_writing.proofs.put_sats.Given as goal
 
 abbrev pub invariant-loop-i : goal.invariant-loop-i

@@ -1,14 +1,9 @@
-use native.Mathlib.Omega.{arith}
-use borrow.Author.Rules.{rules}
 use Prim.Native.Nat.{◌-◌, ◌≤◌}
-use mathlib.Core.Path.{◌≡◌, sym, ◌∙◌}
+use mathlib.Core.Path.{◌≡◌}
 use mathlib.Core.Bool.{true}
-use borrow.Author.Tests.{not-true, not-false}
 use Rattle.biases.specs.Biases.{sat_widths}
 use Rattle.fitting.specs.Fits.{all_fit}
-use Rattle.fitting.proofs.FitLaws.{all_none, all_more, all_miss}
 use Rattle.bias_writing.specs.Put.{sat_row}
-use Rattle.bias_writing.proofs.EightLaws.{sat_eight}
 use Rattle.bias_writing.proofs.sats_fit.Given as goal
 
 abbrev pub invariant-loop-i : goal.invariant-loop-i

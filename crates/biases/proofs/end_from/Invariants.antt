@@ -1,9 +1,6 @@
-use native.Mathlib.Omega.{arith}
-use borrow.Author.Rules.{rules}
 use Prim.Native.Nat.{◌-◌, ◌≤◌}
-use mathlib.Core.Path.{◌≡◌, ap, ◌∙◌}
-use Rattle.biases.specs.Biases.{next_sat, sat_place}
-use Rattle.biases.proofs.PlaceLaws.{place_start, place_step, place_near}
+use mathlib.Core.Path.{◌≡◌}
+use Rattle.biases.specs.Biases.{sat_place}
 use Rattle.biases.proofs.end_from.Given as goal
 
 abbrev pub invariant-loop-i : goal.invariant-loop-i

@@ -1,9 +1,8 @@
 use native.Mathlib.Omega.{arith}
 use borrow.Author.Rules.{rules}
-use Prim.Native.Nat.{◌-◌, ◌+◌, ◌≤◌}
+use Prim.Native.Nat.{◌-◌, ◌+◌}
 use mathlib.Core.Path.{◌≡◌, ap, ◌∙◌, sym}
 use mathlib.Core.Logic.{⊎_elim}
-use lib.ListN.{length}
 use Rattle.biases.specs.Biases.{bias_nth, stored}
 use Rattle.biases.proofs.FilledLaws.{stored_none, stored_step, stored_stop, turn, stop}
 use Rattle.biases.proofs.more_biases.Goals as goal

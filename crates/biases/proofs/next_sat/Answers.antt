@@ -1,4 +1,3 @@
-use borrow.Author.Rules.{rules}
 use Rattle.biases.proofs.next_sat.Goals as goal
 
 pub returns : goal.returns

@@ -2,7 +2,6 @@ use mathlib.Core.Path.{refl, ap}
 use native.Mathlib.Omega.{arith}
 use Prim.Native.Nat.{◌+◌}
 use Rattle.bits.proofs.FieldLaws.{field_lt}
-use borrow.Author.Rules.{rules}
 use Rattle.biases.proofs.read_biases.Goals as goal
 
 pub read_row-biases-requires : goal.read_row-biases-requires

@@ -1,4 +1,3 @@
-use borrow.Author.Rules.{rules}
 use mathlib.Core.Path.{refl}
 use Rattle.bits.specs.Table.{table}
 use native.Mathlib.Omega.{arith}

@@ -1,10 +1,9 @@
 use native.Mathlib.Omega.{arith}
-use borrow.Author.Rules.{rules}
-use Prim.Native.Nat.{◌-◌, ◌*◌, ◌≤◌}
+use Prim.Native.Nat.{◌-◌}
 use mathlib.Core.Path.{◌≡◌, ap, ◌∙◌, sym}
 use lib.ListN.{length}
 use Rattle.biases.specs.declared.BiasSat.{BiasSat}
-use Rattle.biases.specs.Biases.{next_sat, sat_place, biases_at, filled, no_bias}
+use Rattle.biases.specs.Biases.{next_sat, biases_at, filled, no_bias}
 use Rattle.biases.proofs.FilledLaws.{filled_none}
 use Rattle.biases.proofs.PlaceLaws.{place_start, place_step, place_near, biases_start}
 use Rattle.biases.proofs.RowLaws.{row_more, used_more, used_near}

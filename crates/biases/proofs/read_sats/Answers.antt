@@ -1,8 +1,7 @@
 use native.Mathlib.Omega.{arith}
-use borrow.Author.Rules.{rules}
-use Prim.Native.Nat.{◌-◌, ◌≤◌}
+use Prim.Native.Nat.{◌-◌}
 use mathlib.Core.Path.{◌≡◌, ap, ◌∙◌, sym}
-use Rattle.biases.specs.Biases.{next_sat, sat_place, sats_at, filled, blank_sat}
+use Rattle.biases.specs.Biases.{next_sat, sats_at, filled, blank_sat}
 use Rattle.biases.proofs.PlaceLaws.{place_start, place_step, place_near, sats_start, sats_step, length_sats}
 use Rattle.biases.proofs.FilledLaws.{filled_none, filled_set}
 use Rattle.biases.proofs.read_sats.Goals as goal

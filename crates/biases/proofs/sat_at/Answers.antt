@@ -1,4 +1,3 @@
-use borrow.Author.Rules.{rules}
 use Rattle.biases.proofs.PlaceLaws.{sat_blank, sat_named}
 use Rattle.biases.proofs.sat_at.Goals as goal
 

@@ -1,12 +1,6 @@
-use borrow.Author.Rules.{rules}
-use native.Mathlib.Omega.{arith}
-use Prim.Native.Nat.{◌+◌, ◌*◌, ◌-◌, ◌/◌, ◌%◌, ◌^◌, ◌≤◌, ◌<◌}
-use mathlib.Core.Path.{◌≡◌, sym, ◌∙◌}
-use borrow.Author.Tests.{lt-leb}
+use Prim.Native.Nat.{◌+◌, ◌*◌, ◌-◌, ◌/◌, ◌^◌, ◌≤◌, ◌<◌}
+use mathlib.Core.Path.{◌≡◌}
 use Rattle.bits.specs.Bits.{field_at}
-use Rattle.bits.proofs.FieldLaws.{got_field, field_zero}
-use Rattle.bits.proofs.ByteWise.{turn, turn_fits}
-use native.Mathlib.Nat.{zero-mul}
 use Rattle.bits.proofs.by_bytes.Given as goal
 
 abbrev pub invariant-loop-left : goal.invariant-loop-left

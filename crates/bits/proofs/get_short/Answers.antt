@@ -1,4 +1,3 @@
-use borrow.Author.Rules.{rules}
 use native.Mathlib.Omega.{arith}
 use Rattle.bits.proofs.WindowLaws.{window}
 use Rattle.bits.proofs.get_short.Goals as goal

@@ -1,10 +1,7 @@
-use borrow.Author.Rules.{rules}
-use native.Mathlib.Omega.{arith}
 use Prim.Native.Nat.{◌-◌, ◌≤◌}
-use mathlib.Core.Path.{◌≡◌, sym, ◌∙◌, refl}
+use mathlib.Core.Path.{◌≡◌}
 use lib.ListN.{length, drop}
 use Rattle.bits.specs.Some.{any_of}
-use Rattle.bits.proofs.SomeLaws.{some_hit, some_miss, some_end}
 use Rattle.broadcast.specs.Issues.{is_ill}
 use Rattle.broadcast.proofs.any_ill.Given as goal
 

@@ -1,10 +1,6 @@
 use native.Mathlib.Omega.{arith}
-use borrow.Author.Rules.{rules}
-use Prim.Native.Nat.{◌-◌, ◌≤◌}
-use mathlib.Core.Path.{◌≡◌, refl}
-use mathlib.Core.List.{◌++◌}
-use lib.ListN.{length, drop}
-use Rattle.bits.specs.Table.{table}
+use Prim.Native.Nat.{◌-◌}
+use mathlib.Core.Path.{refl}
 use Rattle.bits.proofs.TableLaws.{fill_start, fill_step, fill_done}
 use Rattle.records.specs.Clock.{blank_clock}
 use Rattle.canonical.specs.Canon.{canon_clock_nth, canon_clock_rows}

@@ -1,4 +1,3 @@
-use borrow.Author.Rules.{rules}
 use borrow.Author.Tests.{eq-eqb, ne_eqb}
 use Rattle.canonical.specs.Canon.{canon_orbits}
 use Rattle.canonical.proofs.canon_orbits.Goals as goal

@@ -1,4 +1,3 @@
-use borrow.Author.Rules.{rules}
 use Rattle.canonical.specs.Canon.{canon}
 use Rattle.canonical.proofs.canonical.Goals as goal
 

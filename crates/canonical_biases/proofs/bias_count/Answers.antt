@@ -1,8 +1,6 @@
 use native.Mathlib.Omega.{arith}
-use borrow.Author.Rules.{rules}
-use Prim.Native.Nat.{◌*◌, ◌-◌, ◌≤◌}
+use Prim.Native.Nat.{◌-◌}
 use mathlib.Core.Path.{◌≡◌}
-use Rattle.canonical_biases.specs.Canon.{bias_count}
 use Rattle.canonical_biases.proofs.CountLaws.{count_none, count_step}
 use Rattle.canonical_biases.proofs.bias_count.Goals as goal
 

@@ -1,4 +1,3 @@
-use borrow.Author.Rules.{rules}
 use Rattle.canonical_biases.specs.Canon.{canon_biases}
 use Rattle.canonical_biases.proofs.canon_biases.Goals as goal
 

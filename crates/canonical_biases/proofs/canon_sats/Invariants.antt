@@ -1,13 +1,9 @@
-use native.Mathlib.Omega.{arith}
-use borrow.Author.Rules.{rules}
 use Prim.Native.Nat.{◌-◌, ◌≤◌}
-use mathlib.Core.Path.{◌≡◌, refl}
+use mathlib.Core.Path.{◌≡◌}
 use mathlib.Core.List.{◌++◌}
 use lib.ListN.{length, drop}
 use Rattle.bits.specs.Table.{table}
-use Rattle.bits.proofs.TableLaws.{fill_start, fill_step, fill_done}
-use Rattle.biases.specs.Biases.{blank_sat}
-use Rattle.canonical_biases.specs.Canon.{canon_sat, canon_sats}
+use Rattle.canonical_biases.specs.Canon.{canon_sat}
 use Rattle.canonical_biases.proofs.canon_sats.Given as goal
 
 abbrev pub invariant-loop-i : goal.invariant-loop-i

@@ -1,4 +1,3 @@
-use borrow.Author.Rules.{rules}
 use Rattle.canonical_biases.specs.Canon.{bias_bits}
 use Rattle.canonical_biases.proofs.written_end.Goals as goal
 

@@ -1,11 +1,8 @@
-use borrow.Author.Rules.{rules}
 use native.Mathlib.Omega.{arith}
-use Prim.Native.Nat.{◌+◌, ◌*◌, ◌%◌, ◌^◌, ◌<◌}
-use mathlib.Core.Path.{◌≡◌, ◌∙◌}
+use Prim.Native.Nat.{◌%◌, ◌<◌}
+use mathlib.Core.Path.{◌∙◌}
 use lib.Dec.{lit<}
-use Rattle.bits.specs.Bits.{bits_from}
 use Rattle.bits.proofs.FieldLaws.{got_field, got_lt}
-use Rattle.check24.specs.Check.{check_bits, check_of}
 use Rattle.check24.proofs.EightLaws.{fed_lt, turn, turn_end, from_first}
 use Rattle.check24.proofs.check.Goals as goal
 

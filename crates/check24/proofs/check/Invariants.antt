@@ -1,12 +1,7 @@
-use borrow.Author.Rules.{rules}
-use native.Mathlib.Omega.{arith}
-use Prim.Native.Nat.{◌+◌, ◌*◌, ◌%◌, ◌^◌, ◌<◌}
-use mathlib.Core.Path.{◌≡◌, ◌∙◌}
-use lib.Dec.{lit<}
+use Prim.Native.Nat.{◌+◌, ◌*◌, ◌^◌, ◌<◌}
+use mathlib.Core.Path.{◌≡◌}
 use Rattle.bits.specs.Bits.{bits_from}
-use Rattle.bits.proofs.FieldLaws.{got_field, got_lt}
 use Rattle.check24.specs.Check.{check_bits, check_of}
-use Rattle.check24.proofs.EightLaws.{fed_lt, turn, turn_end, from_first}
 use Rattle.check24.proofs.check.Given as goal
 
 abbrev pub invariant-loop-left : goal.invariant-loop-left

@@ -1,5 +1,4 @@
 use mathlib.Core.Path.{ap₂}
-use borrow.Author.Rules.{rules}
 use lib.Dec.{eqb}
 use Rattle.check24.proofs.check_ok.Goals as goal
 

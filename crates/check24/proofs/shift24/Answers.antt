@@ -1,4 +1,3 @@
-use borrow.Author.Rules.{rules}
 use mathlib.Core.Path.{ap, ◌∙◌}
 use Rattle.check24.specs.Eight.{shifted}
 use Rattle.check24.proofs.EightLaws.{shifted_lt, shifted_add}

@@ -1,4 +1,3 @@
-use borrow.Author.Rules.{rules}
 use Rattle.check24.proofs.EightLaws.{by_eights}
 use Rattle.check24.proofs.shift8.Goals as goal
 

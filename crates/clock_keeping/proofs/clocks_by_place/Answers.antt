@@ -25,7 +25,7 @@ use Rattle.clock_keeping.proofs.clocks_by_place.Goals as goal
 pub loop-j-init : goal.loop-j-init
 loop-j-init c =
     let a = c.args in
-    let p = a.t3 in
+    let p = a.p in
     let first = c.first_place-n.result.0 in
     (omega arith, search (rules, length_mapped), refl, refl, ap (λ (n : ℕ). replace_clocks a.t.now (by_place (held_clock true p.epoch p.ssr) (bits_at a.t.now) (take p.count p.clocks) n)) (add-zero first), λ k. ap (λ (n : ℕ). nth_set (bits_at a.t.now) (n + k)) (sym (add-zero first)), λ z. refl, omega arith)
 
@@ -33,7 +33,7 @@ pub returns-then-slot-n : goal.returns-then-slot-n
 returns-then-slot-n c =
     let l = c.loop-j in
     let a = c.args in
-    let p = a.t3 in
+    let p = a.p in
     let first = c.first_place-n.result.0 in
     let bits = bits_at a.t.now in
     let test = filler_found c.nth_after-slot.result.0 l.n.0 c.if-slot-n.true in
@@ -44,16 +44,16 @@ returns-then-slot-n c =
     ∙ asked a.t.now a.kind p first c.first_place-n.ensures c.requires
 
 pub bounds-p-j : goal.bounds-p-j
-bounds-p-j c = (turn c.loop-j.j c.args.t3.count c.loop-j-test.true).0
+bounds-p-j c = (turn c.loop-j.j c.args.p.count c.loop-j-test.true).0
 
 pub loop-j-smaller : goal.loop-j-smaller
-loop-j-smaller c = omega (arith, turn c.loop-j.j c.args.t3.count c.loop-j-test.true)
+loop-j-smaller c = omega (arith, turn c.loop-j.j c.args.p.count c.loop-j-test.true)
 
 pub loop-j-preserved : goal.loop-j-preserved
 loop-j-preserved c =
     let l = c.loop-j in
     let a = c.args in
-    let p = a.t3 in
+    let p = a.p in
     let first = c.first_place-n.result.0 in
     let near = turn l.j p.count c.loop-j-test.true in
     let records = take p.count p.clocks in
@@ -70,7 +70,7 @@ loop-j-preserved c =
     in (
       omega arith,
       l.invariant.1,
-      c.replace_clock.auto.0 ∙ l.invariant.2,
+      c.replace_clock.auto.t ∙ l.invariant.2,
       rw c.replace_clock.ensures (clock_bits l.t _ _ ∙ l.invariant.3),
       rw (put, ← next) (sym step ∙ l.invariant.4),
       λ k.
@@ -87,7 +87,7 @@ pub returns : goal.returns
 returns c =
     let l = c.loop-j in
     let a = c.args in
-    let p = a.t3 in
+    let p = a.p in
     let first = c.first_place-n.result.0 in
     let records = take p.count p.clocks in
     let bits = bits_at a.t.now in

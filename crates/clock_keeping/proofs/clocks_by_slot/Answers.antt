@@ -22,7 +22,7 @@ loop-j-preserved c =
     let put = rw (c.held_clock-h.ensures, c.slot_named.ensures) at c.replace_clock.ensures in (
       omega arith,
       l.invariant.1,
-      c.replace_clock.auto.0 ∙ l.invariant.2,
+      c.replace_clock.auto.t ∙ l.invariant.2,
       rw put (sym (slot_step replace_clock (held_clock false p.epoch p.ssr) p.clocks l.j blank_clock l.t (λ (k : Clock). k.slot) (clock_named l.t) (omega arith)) ∙ l.invariant.3),
     )
 

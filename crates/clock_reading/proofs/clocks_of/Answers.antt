@@ -1,4 +1,3 @@
-use borrow.Author.Rules.{rules}
 use Rattle.layout.proofs.LayoutLaws.{layout_narrow}
 use Rattle.contents.specs.Parts.{contents_at}
 use Rattle.clock_reading.proofs.clocks_of.Goals as goal

@@ -1,16 +1,10 @@
-use native.Mathlib.Omega.{arith}
-use borrow.Author.Rules.{rules}
-use borrow.Author.Tests.{le-ltb}
 use Prim.Native.Nat.{ℕ, ◌+◌, ◌-◌, ◌≤◌, ◌<◌}
-use mathlib.Core.Path.{◌≡◌, refl, sym, ap, ◌∙◌}
-use mathlib.Core.Logic.{⊎_elim}
+use mathlib.Core.Path.{◌≡◌}
 use mathlib.Core.List.{◌++◌}
-use lib.ListN.{length, drop, get_or, get_or-replicate}
+use lib.ListN.{length, drop, get_or}
 use Rattle.bits.specs.Table.{table}
-use Rattle.bits.proofs.TableLaws.{fill_start, fill_step}
-use Rattle.contents.specs.Parts.{clock_nth, clocks_at}
+use Rattle.contents.specs.Parts.{clock_nth}
 use Rattle.records.specs.Clock.{blank_clock}
-use Rattle.contents.proofs.BlankLaws.{turn, stop, fill_rest}
 use Rattle.clock_reading.proofs.read_clocks.Given as goal
 
 abbrev pub invariant-loop-i : goal.invariant-loop-i

@@ -49,7 +49,7 @@ loop-j-preserved c =
     let step = place_step kept_code held_code a.u.codes l.j 0 l.t bits (first + l.j) (omega arith) in (
       omega arith,
       l.invariant.1,
-      c.keep_code.auto.0 ∙ l.invariant.2,
+      c.keep_code.auto.t ∙ l.invariant.2,
       rw c.keep_code.ensures (code_bits l.t _ _ ∙ l.invariant.3),
       rw (put, ← next) (sym step ∙ l.invariant.4),
       λ k.

@@ -1,4 +1,3 @@
-use borrow.Author.Rules.{rules}
 use Rattle.code_writing.specs.Codes.{codes_fit}
 use Rattle.code_writing.proofs.codes_fit.Goals as goal
 

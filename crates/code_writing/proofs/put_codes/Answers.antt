@@ -1,4 +1,3 @@
-use borrow.Author.Rules.{rules}
 use Rattle.code_writing.specs.Codes.{codes_put}
 use Rattle.code_writing.proofs.put_codes.Goals as goal
 

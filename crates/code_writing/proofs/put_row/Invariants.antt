@@ -1,10 +1,7 @@
-use native.Mathlib.Omega.{arith}
-use borrow.Author.Rules.{rules}
 use Prim.Native.Nat.{◌-◌, ◌≤◌}
-use mathlib.Core.Path.{◌≡◌, refl, sym, ◌∙◌}
+use mathlib.Core.Path.{◌≡◌}
 use lib.ListN.{length}
-use Rattle.bits.specs.Bits.{puts_at, put_rows}
-use Rattle.bits.proofs.RowLaws.{rows_step, rows_none}
+use Rattle.bits.specs.Bits.{put_rows}
 use Rattle.code_writing.specs.Codes.{code_widths, code_row}
 use Rattle.code_writing.proofs.put_row.Given as goal
 

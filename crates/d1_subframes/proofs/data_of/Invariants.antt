@@ -1,11 +1,8 @@
-use borrow.Author.Rules.{rules}
-use native.Mathlib.Omega.{arith}
 use Prim.Native.Nat.{◌-◌, ◌≤◌}
-use mathlib.Core.Path.{◌≡◌, refl, sym, ◌∙◌}
+use mathlib.Core.Path.{◌≡◌}
 use lib.ListN.{length, drop}
 use Rattle.bits.specs.Bits.{puts_at}
 use Rattle.d1_subframes.specs.Subframe.{info_widths, offset_of, infos_of, data_of}
-use Rattle.d1_subframes.proofs.LoopLaws.{info_step, info_end}
 use Rattle.d1_subframes.proofs.data_of.Given as goal
 
 abbrev pub invariant-loop-i : goal.invariant-loop-i

@@ -1,4 +1,3 @@
-use borrow.Author.Rules.{rules}
 use borrow.Author.Tests.{ne_eqb}
 use mathlib.Core.Path.{◌≡◌, sym, ap, ◌∙◌}
 use mathlib.Core.Bool.{true, false}
@@ -13,7 +12,7 @@ returns-then-s-room c =
     let a = c.args in
     let t : read_unfit a.room.now a.s.now ≡ true = rw (← c.get8-closing.ensures) c.if-s-room.true in
     let e = read_unfit_lem a.room.now a.s.now t in
-    (rw e, rw e)
+    record { verdict = rw e; bytes = rw e }
 
 pub returns-then-n-ne0 : goal.returns-then-n-ne0
 returns-then-n-ne0 c =
@@ -21,7 +20,7 @@ returns-then-n-ne0 c =
     let t : read_unfit a.room.now a.s.now ≡ false = rw (← c.get8-closing.ensures) c.if-s-room.false in
     let e : read_refusal a.room.now a.s.now ≡ c.refusal_of-n.result =
     read_judged a.room.now a.s.now t ∙ sym (c.refusal_of-n.ensures ∙ ap (subframe_refusal false) c.data_of-d.ensures) in
-    (rw (e, ne_eqb _ _ c.if-n-ne0.true), rw (e, ne_eqb _ _ c.if-n-ne0.true))
+    record { verdict = rw (e, ne_eqb _ _ c.if-n-ne0.true); bytes = rw (e, ne_eqb _ _ c.if-n-ne0.true) }
 
 pub returns : goal.returns
 returns c =
@@ -30,4 +29,4 @@ returns c =
     let e : read_refusal a.room.now a.s.now ≡ 0 =
     read_judged a.room.now a.s.now t ∙ sym (c.refusal_of-n.ensures ∙ ap (subframe_refusal false) c.data_of-d.ensures) ∙ c.if-n-ne0.false in
     let l : length a.room.now ≡ length (data_of a.s.now) = (read_fits a.room.now a.s.now t).1 ∙ sym (length_data a.s.now) in
-    (rw e, rw (e, c.store.ensures, c.data_of-d.ensures) (whole a.room.now (data_of a.s.now) l))
+    record { verdict = rw e; bytes = rw (e, c.store.ensures, c.data_of-d.ensures) (whole a.room.now (data_of a.s.now) l) }

@@ -1,4 +1,3 @@
-use borrow.Author.Rules.{rules}
 use borrow.Author.Tests.{ne_eqb}
 use mathlib.Core.Path.{◌≡◌, sym, ◌∙◌}
 use lib.ListN.{length}
@@ -11,14 +10,14 @@ pub returns-then-s-room : goal.returns-then-s-room
 returns-then-s-room c =
     let a = c.args in
     let e = write_unfit_lem a.room.now a.s.now c.if-s-room.true in
-    (rw e, rw e)
+    record { verdict = rw e; bytes = rw e }
 
 pub returns-then-n-ne0 : goal.returns-then-n-ne0
 returns-then-n-ne0 c =
     let a = c.args in
     let e : subframe_write_refusal a.room.now a.s.now ≡ c.refusal_of-n.result =
     write_judged a.room.now a.s.now c.if-s-room.false ∙ sym c.refusal_of-n.ensures in
-    (rw (e, ne_eqb _ _ c.if-n-ne0.true), rw (e, ne_eqb _ _ c.if-n-ne0.true))
+    record { verdict = rw (e, ne_eqb _ _ c.if-n-ne0.true); bytes = rw (e, ne_eqb _ _ c.if-n-ne0.true) }
 
 pub returns : goal.returns
 returns c =
@@ -27,4 +26,4 @@ returns c =
     write_judged a.room.now a.s.now c.if-s-room.false ∙ sym c.refusal_of-n.ensures ∙ c.if-n-ne0.false in
     let l : length a.room.now ≡ length (subframe_of a.s.now) =
     (write_fits a.room.now a.s.now c.if-s-room.false).1 ∙ sym (length_subframe a.s.now) in
-    (rw e, rw (e, c.store.ensures, c.subframe_of-w.ensures) (whole a.room.now (subframe_of a.s.now) l))
+    record { verdict = rw e; bytes = rw (e, c.store.ensures, c.subframe_of-w.ensures) (whole a.room.now (subframe_of a.s.now) l) }

@@ -1,8 +1,6 @@
-use borrow.Author.Rules.{rules}
 use native.Mathlib.Omega.{arith}
-use Prim.Native.Nat.{◌-◌, ◌/◌, ◌^◌, ◌≤◌}
-use mathlib.Core.Path.{◌≡◌, ◌∙◌}
-use Rattle.d1_words.specs.Over.{over_bits}
+use Prim.Native.Nat.{◌-◌, ◌/◌, ◌^◌}
+use mathlib.Core.Path.{◌∙◌}
 use Rattle.d1_words.specs.Word.{wider, spread}
 use Rattle.d1_words.proofs.OverLaws.{over_start, over_turn, over_all, wider_room}
 use Rattle.d1_words.proofs.apart.Goals as goal

@@ -1,4 +1,3 @@
-use borrow.Author.Rules.{rules}
 use Rattle.d1_words.specs.Code.{corrected}
 use Rattle.d1_words.proofs.OverLaws.{remainder_lt}
 use Rattle.d1_words.proofs.bch_correct.Goals as goal

@@ -1,10 +1,7 @@
-use borrow.Author.Rules.{rules}
-use native.Mathlib.Omega.{arith}
 use Prim.Native.Nat.{◌-◌, ◌*◌, ◌/◌, ◌^◌, ◌≤◌}
-use mathlib.Core.Path.{◌≡◌, ◌∙◌}
+use mathlib.Core.Path.{◌≡◌}
 use Rattle.d1_words.specs.Over.{over_bits}
-use Rattle.d1_words.specs.Word.{closer, every_other}
-use Rattle.d1_words.proofs.OverLaws.{over_start, over_turn, over_all, closer_room}
+use Rattle.d1_words.specs.Word.{closer}
 use Rattle.d1_words.proofs.every_other.Given as goal
 
 abbrev pub invariant-loop-k : goal.invariant-loop-k

@@ -1,4 +1,3 @@
-use borrow.Author.Rules.{rules}
 use Rattle.d1_words.specs.Word.{read_first}
 use Rattle.d1_words.proofs.read_first.Goals as goal
 

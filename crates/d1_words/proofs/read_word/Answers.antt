@@ -1,4 +1,3 @@
-use borrow.Author.Rules.{rules}
 use Rattle.d1_words.specs.Word.{read_word}
 use Rattle.d1_words.proofs.read_word.Goals as goal
 

@@ -1,8 +1,6 @@
-use borrow.Author.Rules.{rules}
 use native.Mathlib.Omega.{arith}
-use Prim.Native.Nat.{◌-◌, ◌/◌, ◌^◌, ◌≤◌}
-use mathlib.Core.Path.{◌≡◌, ◌∙◌}
-use Rattle.d1_words.specs.Over.{over_bits}
+use Prim.Native.Nat.{◌-◌}
+use mathlib.Core.Path.{◌∙◌}
 use Rattle.d1_words.specs.Code.{word_shifted, remainder_of}
 use Rattle.d1_words.proofs.OverLaws.{over_start, over_turn, over_all, register_lt}
 use Rattle.d1_words.proofs.remainder.Goals as goal

@@ -1,10 +1,7 @@
-use borrow.Author.Rules.{rules}
-use native.Mathlib.Omega.{arith}
 use Prim.Native.Nat.{◌-◌, ◌/◌, ◌^◌, ◌≤◌}
-use mathlib.Core.Path.{◌≡◌, ◌∙◌}
+use mathlib.Core.Path.{◌≡◌}
 use Rattle.d1_words.specs.Over.{over_bits}
-use Rattle.d1_words.specs.Code.{word_shifted, remainder_of}
-use Rattle.d1_words.proofs.OverLaws.{over_start, over_turn, over_all, register_lt}
+use Rattle.d1_words.specs.Code.{word_shifted}
 use Rattle.d1_words.proofs.remainder.Given as goal
 
 abbrev pub invariant-loop-k : goal.invariant-loop-k

@@ -1,4 +1,3 @@
-use borrow.Author.Rules.{rules}
 use borrow.Author.Tests.{lt-ltb, le-ltb}
 use Rattle.bits.specs.Poly.{times_x}
 use Rattle.d1_words.specs.Code.{word_shifted}

@@ -1,4 +1,3 @@
-use borrow.Author.Rules.{rules}
 use Rattle.d1_words.specs.Word.{written_first}
 use Rattle.d1_words.proofs.write_first.Goals as goal
 

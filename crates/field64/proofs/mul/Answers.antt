@@ -1,4 +1,3 @@
-use borrow.Author.Rules.{rules}
 use Rattle.field64.proofs.LogLaws.{product_by_lem}
 use Rattle.field64.proofs.mul.Goals as goal
 

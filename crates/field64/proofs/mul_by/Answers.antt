@@ -1,4 +1,3 @@
-use borrow.Author.Rules.{rules}
 use Rattle.field64.proofs.LogLaws.{by_zero, by_logs}
 use Rattle.field64.proofs.mul_by.Goals as goal
 

@@ -1,4 +1,3 @@
-use borrow.Author.Rules.{rules}
 use mathlib.Core.Path.{◌∙◌}
 use Rattle.fitting.proofs.FitLaws.{head_eight}
 use Rattle.fitting.proofs.head_fits.Goals as goal

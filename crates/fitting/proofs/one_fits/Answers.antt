@@ -1,5 +1,4 @@
 use native.Mathlib.Omega.{arith}
-use borrow.Author.Rules.{rules}
 use Prim.Native.Nat.{◌^◌}
 use mathlib.Core.Path.{sym}
 use native.Mathlib.Nat.{one-mul}

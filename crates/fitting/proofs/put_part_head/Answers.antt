@@ -1,4 +1,3 @@
-use borrow.Author.Rules.{rules}
 use mathlib.Core.Path.{◌∙◌}
 use Rattle.bits.specs.Bits.{puts_at, put_at}
 use Rattle.fitting.proofs.put_part_head.Goals as goal

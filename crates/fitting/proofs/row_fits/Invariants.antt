@@ -1,11 +1,7 @@
-use native.Mathlib.Omega.{arith}
-use borrow.Author.Rules.{rules}
 use Prim.Native.Nat.{◌-◌, ◌≤◌}
-use mathlib.Core.Path.{◌≡◌, refl, sym, ◌∙◌}
+use mathlib.Core.Path.{◌≡◌}
 use lib.ListN.{length, drop}
-use borrow.Author.Tests.{not-true, not-false}
 use Rattle.fitting.specs.Fits.{fits}
-use Rattle.fitting.proofs.FitLaws.{fits_step, fits_end}
 use Rattle.fitting.proofs.row_fits.Given as goal
 
 abbrev pub invariant-loop-i : goal.invariant-loop-i

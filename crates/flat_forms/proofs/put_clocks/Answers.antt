@@ -10,15 +10,15 @@ use Rattle.flat_numbers.proofs.RowLaws.{rows_start, rows_next}
 use Rattle.flat_forms.proofs.put_clocks.Goals as goal
 
 pub loop-i-init : goal.loop-i-init
-loop-i-init c = let a = c.args in (omega arith, refl, rows_start (flat_clock_row a.t2) 5 (λ i. refl) a.room.now 48)
+loop-i-init c = let a = c.args in (omega arith, refl, rows_start (flat_clock_row a.ks) 5 (λ i. refl) a.room.now 48)
 
 pub loop-i-preserved : goal.loop-i-preserved
 loop-i-preserved c =
     let l = c.loop-i in
     let a = c.args in (
       omega arith,
-      c.put_clock.auto.0 ∙ l.invariant.1,
-      c.put_clock.ensures ∙ rows_next (flat_clock_row a.t2) 5 (λ i. refl) a.room.now l.room 48 l.i _ l.invariant.2 refl,
+      c.put_clock.auto.room ∙ l.invariant.1,
+      c.put_clock.ensures ∙ rows_next (flat_clock_row a.ks) 5 (λ i. refl) a.room.now l.room 48 l.i _ l.invariant.2 refl,
     )
 
 pub returns : goal.returns

@@ -1,4 +1,3 @@
-use borrow.Author.Rules.{rules}
 use borrow.Author.Tests.{ne_eqb}
 use mathlib.Core.Path.{◌≡◌, ◌∙◌}
 use Rattle.subframe2.specs.Fields.{fields_of}
@@ -12,7 +11,7 @@ pub returns-then-room-ne248 : goal.returns-then-room-ne248
 returns-then-room-ne248 c =
     let a = c.args in
     let e : fields_refusal a.room.now a.s.now ≡ 39 = size_wrong a.room.now a.s.now c.if-room-ne248.true in
-    (rw e, rw e)
+    record { verdict = rw e; bytes = rw e }
 
 pub returns-then-number_of-ne0 : goal.returns-then-number_of-ne0
 returns-then-number_of-ne0 c =
@@ -20,7 +19,7 @@ returns-then-number_of-ne0 c =
     let said = said_by a.s.now c.read-r.result c.read-r.ensures in
     let z = number_said c.number_of.result (subframe2_refusal a.s.now) _ c.number_of.ensures said in
     let e = size_right a.room.now a.s.now c.if-room-ne248.false in
-    (said ∙ rw e, rw (e, z, ne_eqb _ _ c.if-number_of-ne0.true))
+    record { verdict = said ∙ rw e; bytes = rw (e, z, ne_eqb _ _ c.if-number_of-ne0.true) }
 
 pub returns : goal.returns
 returns c =
@@ -30,4 +29,4 @@ returns c =
     number_said c.number_of.result (subframe2_refusal a.s.now) _ c.number_of.ensures said ∙ c.if-number_of-ne0.false in
     let e = size_right a.room.now a.s.now c.if-room-ne248.false in
     let f = fields_by a.s.now c.read-r.result c.read-r.ensures z in
-    (said ∙ rw e, rw (e, z) (c.put_fields.ensures ∙ rw f (fields_whole a.room.now (fields_of a.s.now) c.if-room-ne248.false)))
+    record { verdict = said ∙ rw e; bytes = rw (e, z) (c.put_fields.ensures ∙ rw f (fields_whole a.room.now (fields_of a.s.now) c.if-room-ne248.false)) }

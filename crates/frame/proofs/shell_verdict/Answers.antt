@@ -1,5 +1,5 @@
 use borrow.Author.Rules.{rules}
-use borrow.Author.Tests.{eq-eqb, ne_eqb, not-true, not-false}
+use borrow.Author.Tests.{eq-eqb, ne_eqb}
 use mathlib.Core.Path.{sym, ap, ◌∙◌}
 use lib.Dec.{eqb}
 use Rattle.parity.specs.declared.Groups.{Groups}
@@ -61,7 +61,7 @@ returns-then-not-check_ok c =
       ← c.bit.ensures,
       ne_eqb _ _ c.if-bit-eq1.false,
       parity_none f ∙ ap (λ (g : Groups). eqb g.failing 0) (sym groups) ∙ eq-eqb _ _ c.if-g-ne0.false,
-      sym c.check_ok.ensures ∙ not-true _ c.if-not-check_ok.true,
+      sym c.check_ok.ensures ∙ c.if-not-check_ok.true,
     )
 
 pub returns : goal.returns
@@ -77,5 +77,5 @@ returns c =
       ← c.bit.ensures,
       ne_eqb _ _ c.if-bit-eq1.false,
       parity_none f ∙ ap (λ (g : Groups). eqb g.failing 0) (sym groups) ∙ eq-eqb _ _ c.if-g-ne0.false,
-      sym c.check_ok.ensures ∙ not-false _ c.if-not-check_ok.false,
+      sym c.check_ok.ensures ∙ c.if-not-check_ok.false,
     )

@@ -1,4 +1,3 @@
-use borrow.Author.Rules.{rules}
 use mathlib.Core.Path.{◌∙◌}
 use Rattle.held_clocks.proofs.ClockLaws.{clock_row_lem}
 use Rattle.held_clocks.proofs.clock_replaces.Goals as goal

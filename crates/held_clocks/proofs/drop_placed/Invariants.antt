@@ -1,11 +1,7 @@
-use borrow.Author.Rules.{rules}
-use native.Mathlib.Omega.{arith}
-use Prim.Native.Nat.{ℕ, ◌+◌, ◌-◌, ◌≤◌}
-use mathlib.Core.List.{List}
-use mathlib.Core.Path.{◌≡◌, sym, ap, ◌∙◌, refl}
+use Prim.Native.Nat.{◌-◌, ◌≤◌}
+use mathlib.Core.Path.{◌≡◌}
 use lib.ListN.{length}
-use Rattle.lent.proofs.DropLaws.{drop_start, drop_step}
-use Rattle.held_clocks.specs.Clocks.{clocks_kept, held_clock_of, held_clock_bytes, drop_clock, dropped_clocks}
+use Rattle.held_clocks.specs.Clocks.{dropped_clocks}
 use Rattle.held_clocks.proofs.drop_placed.Given as goal
 
 abbrev pub invariant-loop-i : goal.invariant-loop-i

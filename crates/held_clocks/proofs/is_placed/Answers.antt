@@ -1,4 +1,3 @@
-use borrow.Author.Rules.{rules}
 use Rattle.held_clocks.proofs.ReadLaws.{clock_placed}
 use Rattle.held_clocks.proofs.is_placed.Goals as goal
 

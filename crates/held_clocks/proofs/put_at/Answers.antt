@@ -1,4 +1,3 @@
-use borrow.Author.Rules.{rules}
 use mathlib.Core.Path.{sym}
 use Rattle.lent.proofs.PastLaws.{store_past}
 use Rattle.held_clocks.specs.Clocks.{held_clock_bytes}

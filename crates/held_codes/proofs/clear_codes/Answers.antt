@@ -1,4 +1,3 @@
-use borrow.Author.Rules.{rules}
 use Rattle.held_codes.specs.Codes.{cleared_codes}
 use Rattle.held_codes.proofs.clear_codes.Goals as goal
 

@@ -1,4 +1,3 @@
-use borrow.Author.Rules.{rules}
 use mathlib.Core.Path.{sym, ◌∙◌}
 use Rattle.held_codes.specs.Codes.{drop_code}
 use Rattle.held_codes.proofs.drop_code.Goals as goal

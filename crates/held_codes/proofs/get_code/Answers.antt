@@ -1,4 +1,3 @@
-use borrow.Author.Rules.{rules}
 use mathlib.Core.Path.{sym, ◌∙◌}
 use Rattle.held_codes.proofs.CodeLaws.{code_none, code_some}
 use Rattle.held_codes.proofs.get_code.Goals as goal

@@ -1,4 +1,3 @@
-use borrow.Author.Rules.{rules}
 use Rattle.held_codes.proofs.CodeLaws.{code_has}
 use Rattle.held_codes.proofs.has_code.Goals as goal
 

@@ -1,4 +1,3 @@
-use borrow.Author.Rules.{rules}
 use Rattle.held_mask.proofs.has_mask.Goals as goal
 
 pub returns : goal.returns

@@ -1,12 +1,8 @@
-use borrow.Author.Rules.{rules}
-use native.Mathlib.Omega.{arith}
-use Prim.Native.Nat.{◌+◌, ◌*◌, ◌-◌, ◌≤◌}
-use mathlib.Core.Path.{◌≡◌, refl, sym, ◌∙◌}
+use Prim.Native.Nat.{◌*◌, ◌-◌, ◌≤◌}
+use mathlib.Core.Path.{◌≡◌}
 use lib.ListN.{drop}
 use Rattle.contents.specs.Parts.{mask_bits_at}
-use Rattle.mask_bits.proofs.BitLaws.{length_mask}
 use Rattle.held_mask.specs.Mask.{same_bits}
-use Rattle.held_mask.proofs.CaseLaws.{fields_same, fields_differ, bits_end}
 use Rattle.held_mask.proofs.same_bits.Given as goal
 
 abbrev pub invariant-loop-k : goal.invariant-loop-k

@@ -1,4 +1,3 @@
-use borrow.Author.Rules.{rules}
 use Rattle.held_orbits.proofs.ReadLaws.{orbit_has}
 use Rattle.held_orbits.proofs.has_orbit.Goals as goal
 

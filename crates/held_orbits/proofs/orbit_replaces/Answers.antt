@@ -1,4 +1,3 @@
-use borrow.Author.Rules.{rules}
 use mathlib.Core.Path.{◌∙◌}
 use Rattle.held_orbits.proofs.OrbitLaws.{orbit_row_lem}
 use Rattle.held_orbits.proofs.orbit_replaces.Goals as goal

@@ -1,4 +1,3 @@
-use borrow.Author.Rules.{rules}
 use mathlib.Core.Path.{sym, ◌∙◌}
 use Rattle.newest.proofs.TargetLaws.{target_none, target_short, target_yes, target_no}
 use Rattle.held_orbits.specs.Orbits.{orbit_replaces, held_orbit_of}

@@ -8,8 +8,8 @@ use Rattle.held_orbits.proofs.replace_orbit.Goals as goal
 pub returns : goal.returns
 returns c =
     let a = c.args in
-    let target = c.orbit_target-at.ensures in (
-      rw target (target_within orbit_replaces no_orbit held_orbit_of held_orbit_bytes 24 orbit_long a.t.now 3096 a.slot.0 a.h (omega arith)),
-      rw (c.put_at.ensures, target)
-          (target_replaced orbit_replaces no_orbit held_orbit_of held_orbit_bytes 24 orbit_long a.t.now 3096 a.slot.0 a.h (search rules)),
-    )
+    let target = c.orbit_target-at.ensures in record {
+      came = rw target (target_within orbit_replaces no_orbit held_orbit_of held_orbit_bytes 24 orbit_long a.t.now 3096 a.slot.0 a.h (omega arith));
+      bytes = rw (c.put_at.ensures, target)
+          (target_replaced orbit_replaces no_orbit held_orbit_of held_orbit_bytes 24 orbit_long a.t.now 3096 a.slot.0 a.h (search rules));
+    }

@@ -1,4 +1,3 @@
-use borrow.Author.Rules.{rules}
 use Rattle.judging.proofs.any_late.Goals as goal
 
 pub returns : goal.returns

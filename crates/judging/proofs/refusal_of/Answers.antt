@@ -1,4 +1,3 @@
-use borrow.Author.Rules.{rules}
 use Rattle.judge.specs.Judge.{refusal_of}
 use Rattle.judging.proofs.refusal_of.Goals as goal
 
@@ -9,10 +8,10 @@ returns c =
       c.refusal_by.ensures,
       c.any_late.ensures,
       c.bad_start.ensures,
-      c.sat_faults-bs.ensures.0,
-      c.sat_faults-bs.ensures.1,
-      c.orbit_faults-os.ensures.0,
-      c.orbit_faults-os.ensures.1,
-      c.clock_faults-ks.ensures.0,
-      c.clock_faults-ks.ensures.1,
+      c.sat_faults-bs.ensures.high,
+      c.sat_faults-bs.ensures.again,
+      c.orbit_faults-os.ensures.high,
+      c.orbit_faults-os.ensures.again,
+      c.clock_faults-ks.ensures.high,
+      c.clock_faults-ks.ensures.again,
     )

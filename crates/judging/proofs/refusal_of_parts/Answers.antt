@@ -1,4 +1,3 @@
-use borrow.Author.Rules.{rules}
 use Rattle.judge.proofs.JudgeLaws.{parts_judged}
 use Rattle.judging.proofs.refusal_of_parts.Goals as goal
 
@@ -8,10 +7,10 @@ returns c =
       parts_judged _ _ _,
       c.refusal_by.ensures,
       c.bad_start.ensures,
-      c.orbit_faults-os.ensures.0,
-      c.orbit_faults-os.ensures.1,
-      c.clock_faults-ks.ensures.0,
-      c.clock_faults-ks.ensures.1,
+      c.orbit_faults-os.ensures.high,
+      c.orbit_faults-os.ensures.again,
+      c.clock_faults-ks.ensures.high,
+      c.clock_faults-ks.ensures.again,
       c.is_late-2.ensures,
       c.is_late.ensures,
       c.end_of-end.ensures,

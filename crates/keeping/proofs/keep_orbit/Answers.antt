@@ -6,12 +6,12 @@ use Rattle.keeping.proofs.keep_orbit.Goals as goal
 pub returns-then-replace_orbit : goal.returns-then-replace_orbit
 returns-then-replace_orbit c =
     let a = c.args in
-    let came = sym c.replace_orbit.ensures.0 ∙ c.if-replace_orbit.true in
+    let came = sym c.replace_orbit.ensures.came ∙ c.if-replace_orbit.true in
     c.drop_code.ensures
-    ∙ rw c.replace_orbit.ensures.1 (sym (kept_orbit_came a.t.now a.slot.0 a.h came))
+    ∙ rw c.replace_orbit.ensures.bytes (sym (kept_orbit_came a.t.now a.slot.0 a.h came))
 
 pub returns-else-replace_orbit : goal.returns-else-replace_orbit
 returns-else-replace_orbit c =
     let a = c.args in
-    let stayed = sym c.replace_orbit.ensures.0 ∙ c.if-replace_orbit.false in
-    c.replace_orbit.ensures.1 ∙ sym (kept_orbit_stayed a.t.now a.slot.0 a.h stayed)
+    let stayed = sym c.replace_orbit.ensures.came ∙ c.if-replace_orbit.false in
+    c.replace_orbit.ensures.bytes ∙ sym (kept_orbit_stayed a.t.now a.slot.0 a.h stayed)

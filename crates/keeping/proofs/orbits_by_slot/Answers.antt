@@ -21,7 +21,7 @@ loop-j-preserved c =
     let put = rw (c.held_orbit-h.ensures, c.slot_named.ensures) at c.keep_orbit.ensures in (
       omega arith,
       l.invariant.1,
-      c.keep_orbit.auto.0 ∙ l.invariant.2,
+      c.keep_orbit.auto.t ∙ l.invariant.2,
       rw put (sym (slot_step kept_orbit (held_orbit p.epoch p.ssr) p.orbits l.j blank_orbit l.t (λ (o : Orbit). o.slot) (kept_orbit_named l.t) (omega arith)) ∙ l.invariant.3),
     )
 

@@ -1,10 +1,9 @@
-use borrow.Author.Rules.{rules}
 use native.Mathlib.Decide.{ℕ_discrete}
 use native.Mathlib.Omega.{arith}
-use Prim.Native.Nat.{ℕ, ◌-◌, ◌≤◌, ◌<◌}
-use mathlib.Core.Path.{◌≡◌, sym, ◌∙◌, refl}
+use Prim.Native.Nat.{◌-◌}
+use mathlib.Core.Path.{sym, ◌∙◌, refl}
 use mathlib.Core.Logic.{dite}
-use lib.ListN.{length, get_or, replicate, length-replicate, length-set}
+use lib.ListN.{length, replicate, length-replicate, length-set}
 use lib.Seq.{get_or-set_same, get_or-set_other, ext_get_or}
 use Rattle.lent.proofs.ZeroLaws.{get_or_zeros}
 use Rattle.lent.proofs.clear.Goals as goal

@@ -1,12 +1,6 @@
-use borrow.Author.Rules.{rules}
-use native.Mathlib.Decide.{ℕ_discrete}
-use native.Mathlib.Omega.{arith}
 use Prim.Native.Nat.{ℕ, ◌-◌, ◌≤◌, ◌<◌}
-use mathlib.Core.Path.{◌≡◌, sym, ◌∙◌, refl}
-use mathlib.Core.Logic.{dite}
-use lib.ListN.{length, get_or, replicate, length-replicate, length-set}
-use lib.Seq.{get_or-set_same, get_or-set_other, ext_get_or}
-use Rattle.lent.proofs.ZeroLaws.{get_or_zeros}
+use mathlib.Core.Path.{◌≡◌}
+use lib.ListN.{length, get_or}
 use Rattle.lent.proofs.clear.Given as goal
 
 abbrev pub invariant-loop-i : goal.invariant-loop-i

@@ -1,4 +1,3 @@
-use borrow.Author.Rules.{rules}
 use mathlib.Core.Path.{sym}
 use Rattle.lent.proofs.ZeroLaws.{four_past}
 use Rattle.lent.proofs.four.Goals as goal

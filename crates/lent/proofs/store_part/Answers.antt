@@ -1,9 +1,8 @@
-use borrow.Author.Rules.{rules}
 use native.Mathlib.Omega.{arith}
-use Prim.Native.Nat.{ℕ, ◌+◌, ◌-◌, ◌≤◌}
+use Prim.Native.Nat.{ℕ, ◌+◌, ◌-◌}
 use mathlib.Core.Path.{◌≡◌, refl, sym, ap, ◌∙◌}
 use mathlib.Core.List.{List}
-use lib.ListN.{length, get_or, drop, set, length-set}
+use lib.ListN.{get_or, drop, set, length-set}
 use Rattle.bits.specs.Bytes.{store_at}
 use Rattle.bits.proofs.ByteLaws.{store_step}
 use Rattle.lent.proofs.PastLaws.{store_past, first_last}

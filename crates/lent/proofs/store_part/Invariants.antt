@@ -1,12 +1,7 @@
-use borrow.Author.Rules.{rules}
-use native.Mathlib.Omega.{arith}
-use Prim.Native.Nat.{ℕ, ◌+◌, ◌-◌, ◌≤◌}
-use mathlib.Core.Path.{◌≡◌, refl, sym, ap, ◌∙◌}
-use mathlib.Core.List.{List}
-use lib.ListN.{length, get_or, drop, set, length-set}
+use Prim.Native.Nat.{◌+◌, ◌-◌, ◌≤◌}
+use mathlib.Core.Path.{◌≡◌}
+use lib.ListN.{length, drop}
 use Rattle.bits.specs.Bytes.{store_at}
-use Rattle.bits.proofs.ByteLaws.{store_step}
-use Rattle.lent.proofs.PastLaws.{store_past, first_last}
 use Rattle.lent.proofs.store_part.Given as goal
 
 abbrev pub invariant-loop-k : goal.invariant-loop-k

@@ -1,11 +1,7 @@
-use borrow.Author.Rules.{rules}
-use native.Mathlib.Omega.{arith}
-use native.Mathlib.Nat.{add-zero}
 use Prim.Native.Nat.{◌+◌, ◌-◌, ◌≤◌}
-use mathlib.Core.Path.{◌≡◌, refl, sym, ◌∙◌}
-use lib.ListN.{length, get_or, drop, length-set}
+use mathlib.Core.Path.{◌≡◌}
+use lib.ListN.{length, drop}
 use Rattle.bits.specs.Bytes.{store_at}
-use Rattle.bits.proofs.ByteLaws.{store_step, store_end}
 use Rattle.lent.proofs.store_whole.Given as goal
 
 abbrev pub invariant-loop-i : goal.invariant-loop-i

@@ -1,4 +1,3 @@
-use borrow.Author.Rules.{rules}
 use mathlib.Core.Path.{sym}
 use Rattle.lent.proofs.ZeroLaws.{two_past}
 use Rattle.lent.proofs.two.Goals as goal

@@ -1,10 +1,8 @@
-use borrow.Author.Rules.{rules}
 use borrow.Author.Tests.{le-ltb}
 use native.Mathlib.Omega.{arith}
-use Prim.Native.Nat.{ℕ, ◌+◌, ◌*◌, ◌-◌, ◌≤◌}
+use Prim.Native.Nat.{ℕ, ◌+◌, ◌*◌, ◌-◌}
 use mathlib.Core.Path.{◌≡◌, sym, ap}
 use lib.Dec.{ltb}
-use lib.ListN.{drop}
 use Rattle.slots.specs.Slots.{set_count}
 use Rattle.slots.proofs.SlotLaws.{count_end}
 use Rattle.mask_bits.specs.Bits.{bits_at}

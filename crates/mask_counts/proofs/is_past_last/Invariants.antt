@@ -1,14 +1,8 @@
-use borrow.Author.Rules.{rules}
-use borrow.Author.Tests.{le-ltb}
-use native.Mathlib.Omega.{arith}
-use Prim.Native.Nat.{ℕ, ◌+◌, ◌*◌, ◌-◌, ◌≤◌}
-use mathlib.Core.Path.{◌≡◌, sym, ap}
-use lib.Dec.{ltb}
+use Prim.Native.Nat.{◌+◌, ◌*◌, ◌-◌, ◌≤◌}
+use mathlib.Core.Path.{◌≡◌}
 use lib.ListN.{drop}
 use Rattle.slots.specs.Slots.{set_count}
-use Rattle.slots.proofs.SlotLaws.{count_end}
 use Rattle.mask_bits.specs.Bits.{bits_at}
-use Rattle.mask_bits.proofs.BitLaws.{length_bits, count_few, count_many}
 use Rattle.mask_counts.proofs.is_past_last.Given as goal
 
 abbrev pub invariant-loop-i : goal.invariant-loop-i

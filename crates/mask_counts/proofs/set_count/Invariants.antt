@@ -1,12 +1,8 @@
-use borrow.Author.Rules.{rules}
-use native.Mathlib.Omega.{arith}
 use Prim.Native.Nat.{◌+◌, ◌*◌, ◌-◌, ◌≤◌}
 use mathlib.Core.Path.{◌≡◌}
 use lib.ListN.{drop}
 use Rattle.slots.specs.Slots.{set_count}
-use Rattle.slots.proofs.SlotLaws.{count_end}
 use Rattle.mask_bits.specs.Bits.{bits_at}
-use Rattle.mask_bits.proofs.BitLaws.{length_bits, count_few, count_many}
 use Rattle.mask_counts.proofs.set_count.Given as goal
 
 abbrev pub invariant-loop-k : goal.invariant-loop-k

@@ -1,4 +1,3 @@
-use borrow.Author.Rules.{rules}
 use Rattle.contents.specs.Parts.{mask_in}
 use Rattle.mask_reading.proofs.mask_in.Goals as goal
 

@@ -1,4 +1,3 @@
-use borrow.Author.Rules.{rules}
 use Rattle.contents.specs.Parts.{contents_at}
 use Rattle.mask_reading.proofs.mask_of.Goals as goal
 

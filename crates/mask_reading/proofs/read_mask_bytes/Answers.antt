@@ -1,12 +1,8 @@
 use native.Mathlib.Omega.{arith}
-use borrow.Author.Rules.{rules}
-use Prim.Native.Nat.{◌-◌, ◌≤◌}
-use mathlib.Core.Path.{◌≡◌, refl}
-use mathlib.Core.List.{◌++◌}
-use lib.ListN.{length, drop}
-use Rattle.bits.specs.Table.{table}
+use Prim.Native.Nat.{◌-◌}
+use mathlib.Core.Path.{refl}
 use Rattle.bits.proofs.TableLaws.{fill_start, fill_step, fill_done}
-use Rattle.contents.specs.Parts.{mask_byte_at, mask_bytes_at}
+use Rattle.contents.specs.Parts.{mask_bytes_at}
 use Rattle.mask_reading.proofs.read_mask_bytes.Goals as goal
 
 pub loop-j-init : goal.loop-j-init

@@ -1,4 +1,3 @@
-use borrow.Author.Rules.{rules}
 use Rattle.mask_reading.proofs.read_mask_part.Goals as goal
 
 pub returns : goal.returns

@@ -1,13 +1,12 @@
-use borrow.Author.Rules.{rules}
 use native.Mathlib.Omega.{arith}
 use Prim.Native.Nat.{ℕ, ◌+◌, ◌-◌, ◌<◌}
-use mathlib.Core.Logic.{⊎_elim}
-use mathlib.Core.Path.{◌≡◌, sym, ap, ◌∙◌, refl}
+use mathlib.Core.Path.{sym, ap, ◌∙◌, refl}
 use lib.ListN.{drop, length}
 use Rattle.slots.specs.Slots.{nth_from}
 use Rattle.slots.proofs.SlotLaws.{nth_hit, nth_pass, nth_skip, nth_end}
 use Rattle.mask_bits.specs.Bits.{bits_at}
 use Rattle.mask_bits.proofs.BitLaws.{length_bits, bit_set, bit_clear}
+use Rattle.mask_walk.proofs.nth_by_bits.Goals.{then-bit-eq1+else-left-eq1+then-left-ne0, then-bit-eq1+else-left-eq1+else-left-ne0, else-bit-eq1}
 use Rattle.mask_walk.proofs.nth_by_bits.Goals as goal
 
 pub loop-i-init : goal.loop-i-init
@@ -32,12 +31,11 @@ loop-i-preserved c =
     let clear = bit_clear t l.i b.result (omega arith) b.ensures in
     let go : ℕ → ℕ = λ q. nth_from (drop (l.i + 1) m) (l.i + 1 + 1) q in
     l.invariant ∙
-    ⊎_elim
-    (λ w. nth_pass m l.i (l.i + 1) l.left h (set w.0.taken) w.1.left ∙ ap go (sym w.3))
-    (⊎_elim
-    (λ w. nth_pass m l.i (l.i + 1) l.left h (set w.0.taken) w.1.left ∙ ap go (omega (arith, w.2.left)))
-    (λ w. nth_skip m l.i (l.i + 1) l.left h (clear w.0.left) ∙ ap go (sym w.1)))
-    c.if-bit-eq1.branch
+    elim c.if-bit-eq1.branch [
+      | then-bit-eq1+else-left-eq1+then-left-ne0 w ↦ nth_pass m l.i (l.i + 1) l.left h (set w.if-bit-eq1.true) w.if-left-eq1.false ∙ ap go (sym w.left-is)
+      | then-bit-eq1+else-left-eq1+else-left-ne0 w ↦ nth_pass m l.i (l.i + 1) l.left h (set w.if-bit-eq1.true) w.if-left-eq1.false ∙ ap go (omega arith)
+      | else-bit-eq1 w ↦ nth_skip m l.i (l.i + 1) l.left h (clear w.if-bit-eq1.false) ∙ ap go (sym w.left-is)
+    ]
 
 pub returns : goal.returns
 returns c =

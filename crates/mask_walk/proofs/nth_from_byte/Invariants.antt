@@ -1,17 +1,10 @@
-use borrow.Author.Rules.{rules}
-use borrow.Author.Tests.{ltb-true}
-use native.Mathlib.Omega.{arith}
-use Prim.Native.Nat.{ℕ, ◌+◌, ◌*◌, ◌-◌, ◌≤◌, ◌<◌}
-use mathlib.Core.Bool.{true, ◌&&◌}
-use mathlib.Core.Path.{◌≡◌, sym, ◌∙◌, refl}
-use lib.Dec.{ltb}
+use Prim.Native.Nat.{◌+◌, ◌*◌, ◌-◌, ◌≤◌}
+use mathlib.Core.Path.{◌≡◌}
 use lib.ListN.{drop}
 use Rattle.bits.specs.Table.{table}
-use Rattle.bits.proofs.TestLaws.{both_hold}
 use Rattle.contents.specs.Parts.{mask_bit_at}
 use Rattle.slots.specs.Slots.{set_count, nth_from}
 use Rattle.mask_bits.specs.Bits.{bits_at}
-use Rattle.mask_bits.proofs.BitLaws.{nth_many}
 use Rattle.mask_walk.proofs.nth_from_byte.Given as goal
 
 abbrev pub invariant-loop-j : goal.invariant-loop-j

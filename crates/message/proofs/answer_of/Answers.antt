@@ -1,4 +1,3 @@
-use borrow.Author.Rules.{rules}
 use borrow.Author.Tests.{eq-eqb, ne_eqb}
 use Rattle.message.specs.Read.{answer}
 use Rattle.message.proofs.answer_of.Goals as goal

@@ -1,5 +1,4 @@
-use borrow.Author.Rules.{rules}
-use borrow.Author.Tests.{eq-eqb, ne_eqb, not-true, not-false}
+use borrow.Author.Tests.{eq-eqb, ne_eqb}
 use mathlib.Core.Path.{sym, ◌∙◌}
 use Rattle.message.specs.Read.{answer, read_message}
 use Rattle.verdict.proofs.NumberLaws.{number_last}
@@ -21,7 +20,7 @@ returns-then-not-check_ok c =
       eq-eqb _ _ c.if-s-ne61.false,
       ← c.get8.ensures,
       eq-eqb _ _ c.if-get8-ne0.false,
-      sym c.check_ok.ensures ∙ not-true _ c.if-not-check_ok.true,
+      sym c.check_ok.ensures ∙ c.if-not-check_ok.true,
     ) c.answer_of-then-not-check_ok.ensures
 
 pub returns : goal.returns
@@ -31,6 +30,6 @@ returns c =
       eq-eqb _ _ c.if-s-ne61.false,
       ← c.get8.ensures,
       eq-eqb _ _ c.if-get8-ne0.false,
-      sym c.check_ok.ensures ∙ not-false _ c.if-not-check_ok.false,
+      sym c.check_ok.ensures ∙ c.if-not-check_ok.false,
       number_last _,
     ) c.read_at.ensures

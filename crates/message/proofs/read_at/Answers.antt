@@ -1,4 +1,3 @@
-use borrow.Author.Rules.{rules}
 use Rattle.judge.specs.Judge.{refusal_at}
 use Rattle.message.proofs.read_at.Goals as goal
 

@@ -1,4 +1,3 @@
-use borrow.Author.Rules.{rules}
 use mathlib.Core.Path.{refl}
 use Rattle.newest.specs.Newest.{is_newer}
 use Rattle.newest.proofs.is_newer.Goals as goal

@@ -1,4 +1,3 @@
-use borrow.Author.Rules.{rules}
 use Rattle.layout.proofs.LayoutLaws.{layout_narrow}
 use Rattle.contents.specs.Parts.{contents_at}
 use Rattle.orbit_reading.proofs.orbits_of.Goals as goal

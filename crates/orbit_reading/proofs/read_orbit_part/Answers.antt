@@ -1,4 +1,3 @@
-use borrow.Author.Rules.{rules}
 use Rattle.orbit_reading.proofs.read_orbit_part.Goals as goal
 
 pub returns : goal.returns

@@ -1,12 +1,8 @@
 use native.Mathlib.Omega.{arith}
-use borrow.Author.Rules.{rules}
-use Prim.Native.Nat.{◌-◌, ◌≤◌}
-use mathlib.Core.Path.{◌≡◌, refl}
-use mathlib.Core.List.{◌++◌}
-use lib.ListN.{length, drop}
-use Rattle.bits.specs.Table.{table}
+use Prim.Native.Nat.{◌-◌}
+use mathlib.Core.Path.{refl}
 use Rattle.bits.proofs.TableLaws.{fill_start, fill_step, fill_done}
-use Rattle.contents.specs.Parts.{orbit_nth, orbits_at}
+use Rattle.contents.specs.Parts.{orbits_at}
 use Rattle.records.specs.Orbit.{blank_orbit}
 use Rattle.orbit_reading.proofs.read_orbits.Goals as goal
 

@@ -1,8 +1,5 @@
-use Rattle.std.proofs.Common.{◌≡◌, ◌+◌, ◌-◌, ◌≤◌, sym, refl, ap, ◌∙◌, ⊎_elim, rules}
-use Rattle.parity.specs.Parity.{first_from, failing_from, failed_groups}
-use Rattle.parity.specs.Unpacked.{fails_by_logs}
-use Rattle.parity.proofs.UnpackedLaws.{fails_by}
-use Rattle.parity.proofs.ParityLaws.{down_fails, down_passes}
+use Rattle.std.proofs.Common.{◌≡◌, ◌+◌, ◌-◌, ◌≤◌}
+use Rattle.parity.specs.Parity.{first_from, failing_from}
 use Rattle.parity.proofs.failed_groups.Given as goal
 
 abbrev pub invariant-loop-g : goal.invariant-loop-g

@@ -1,4 +1,4 @@
-use Rattle.std.proofs.Common.{refl, rules}
+use Rattle.std.proofs.Common.{refl}
 use Rattle.parity.specs.Unpacked.{fails_by_logs}
 use Rattle.parity.proofs.UnpackedLaws.{four_long}
 use Rattle.parity.proofs.fails.Goals as goal

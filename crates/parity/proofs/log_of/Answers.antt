@@ -1,4 +1,4 @@
-use Rattle.std.proofs.Common.{◌-◌, rules}
+use Rattle.std.proofs.Common.{rules}
 use Rattle.field64.proofs.PaddedLaws.{pad_at}
 use Rattle.parity.proofs.log_of.Goals as goal
 

@@ -1,4 +1,4 @@
-use Rattle.std.proofs.Common.{◌-◌, eqb, sym, ap, ◌∙◌, rules}
+use Rattle.std.proofs.Common.{eqb, sym, ap, ◌∙◌}
 use Rattle.parity.proofs.GroupLaws.{parity_none}
 use Rattle.parity.proofs.parity_ok.Goals as goal
 

@@ -1,6 +1,4 @@
-use Rattle.std.proofs.Common.{◌≡◌, ◌-◌, length, drop, refl, ◌∙◌, rules}
-use lib.Bits.{bit_xor}
-use Rattle.parity.specs.Unpacked.{row_by}
+use Rattle.std.proofs.Common.{refl, ◌∙◌, rules}
 use Rattle.parity.proofs.UnpackedLaws.{row_by_step, row_by_end}
 use Rattle.parity.proofs.row.Goals as goal
 

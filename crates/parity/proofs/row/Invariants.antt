@@ -1,7 +1,6 @@
-use Rattle.std.proofs.Common.{◌≡◌, ◌-◌, length, drop, refl, ◌∙◌, rules}
+use Rattle.std.proofs.Common.{◌≡◌, ◌-◌, length, drop}
 use lib.Bits.{bit_xor}
 use Rattle.parity.specs.Unpacked.{row_by}
-use Rattle.parity.proofs.UnpackedLaws.{row_by_step, row_by_end}
 use Rattle.parity.proofs.row.Given as goal
 
 abbrev pub invariant-loop-k : goal.invariant-loop-k

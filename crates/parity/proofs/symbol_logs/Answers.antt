@@ -1,7 +1,5 @@
-use Rattle.std.proofs.Common.{◌≡◌, ◌+◌, ◌-◌, ◌*◌, ◌≤◌, ◌++◌, length, drop, refl, ◌∙◌, arith, rules}
-use Rattle.bits.specs.Table.{table}
+use Rattle.std.proofs.Common.{◌+◌, ◌*◌, refl, ◌∙◌, arith}
 use Rattle.bits.proofs.TableLaws.{fill_start}
-use Rattle.parity.specs.Unpacked.{symbol_log}
 use Rattle.parity.proofs.UnpackedLaws.{symbol_part, fill_four, fours_done}
 use Rattle.parity.proofs.symbol_logs.Goals as goal
 

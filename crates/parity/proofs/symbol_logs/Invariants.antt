@@ -1,8 +1,6 @@
-use Rattle.std.proofs.Common.{◌≡◌, ◌+◌, ◌-◌, ◌*◌, ◌≤◌, ◌++◌, length, drop, refl, ◌∙◌, arith, rules}
+use Rattle.std.proofs.Common.{◌≡◌, ◌-◌, ◌*◌, ◌≤◌, ◌++◌, length, drop}
 use Rattle.bits.specs.Table.{table}
-use Rattle.bits.proofs.TableLaws.{fill_start}
 use Rattle.parity.specs.Unpacked.{symbol_log}
-use Rattle.parity.proofs.UnpackedLaws.{symbol_part, fill_four, fours_done}
 use Rattle.parity.proofs.symbol_logs.Given as goal
 
 abbrev pub invariant-loop-q : goal.invariant-loop-q

@@ -1,4 +1,3 @@
-use Rattle.std.proofs.Common.{rules}
 use Rattle.parity_making.specs.Walk.{adds}
 use Rattle.parity_making.proofs.WalkLaws.{link_lt}
 use Rattle.parity_making.proofs.adds_at.Goals as goal

@@ -1,7 +1,5 @@
-use Rattle.std.proofs.Common.{◌≡◌, ◌-◌, ◌≤◌, ◌++◌, length, drop, refl, arith, rules}
-use Rattle.bits.specs.Table.{table}
+use Rattle.std.proofs.Common.{refl, arith}
 use Rattle.bits.proofs.TableLaws.{fill_start, fill_step}
-use Rattle.parity_making.specs.Walk.{adds}
 use Rattle.parity_making.proofs.WalkLaws.{added_done}
 use Rattle.parity_making.proofs.all_added.Goals as goal
 

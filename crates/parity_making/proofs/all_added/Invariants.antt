@@ -1,8 +1,6 @@
-use Rattle.std.proofs.Common.{◌≡◌, ◌-◌, ◌≤◌, ◌++◌, length, drop, refl, arith, rules}
+use Rattle.std.proofs.Common.{◌≡◌, ◌-◌, ◌≤◌, ◌++◌, length, drop}
 use Rattle.bits.specs.Table.{table}
-use Rattle.bits.proofs.TableLaws.{fill_start, fill_step}
 use Rattle.parity_making.specs.Walk.{adds}
-use Rattle.parity_making.proofs.WalkLaws.{added_done}
 use Rattle.parity_making.proofs.all_added.Given as goal
 
 abbrev pub invariant-loop-k : goal.invariant-loop-k

@@ -1,4 +1,4 @@
-use Rattle.std.proofs.Common.{◌∙◌, rules}
+use Rattle.std.proofs.Common.{◌∙◌}
 use Rattle.parity_making.proofs.WalkLaws.{ring_is}
 use Rattle.parity_making.proofs.around.Goals as goal
 

@@ -1,7 +1,5 @@
-use Rattle.std.proofs.Common.{◌≡◌, ℕ, ◌-◌, ◌≤◌, ◌++◌, length, get_or, drop, refl, arith, rules}
-use Rattle.bits.specs.Table.{table}
+use Rattle.std.proofs.Common.{refl, arith, rules}
 use Rattle.bits.proofs.TableLaws.{fill_start, fill_step, fill_done}
-use Rattle.parity_making.specs.Walk.{turns}
 use Rattle.parity_making.proofs.WalkLaws.{turn_lt}
 use Rattle.parity_making.proofs.in_order.Goals as goal
 

@@ -1,4 +1,3 @@
-use Rattle.std.proofs.Common.{rules}
 use Rattle.parity_making.proofs.symbol.Goals as goal
 
 pub bounds-m-wide : goal.bounds-m-wide

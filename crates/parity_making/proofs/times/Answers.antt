@@ -1,15 +1,11 @@
-use Rattle.std.proofs.Common.{rules}
+use Rattle.std.proofs.Common.{◌≡◌, ◌+◌, ◌%◌, get_or, ◌∙◌, rules}
+use Rattle.field64.specs.Padded.{pad_logs, pad_powers}
 use Rattle.field64.proofs.PaddedLaws.{padded, pad_at}
 use Rattle.parity_making.proofs.times.Goals as goal
 
 pub returns : goal.returns
 returns c =
-    let t = c.requires in
-    rw (
-      c.wide-3.ensures.0,
-      c.wrapping_add_u8-n.ensures,
-      c.wide-2.ensures.0,
-      c.wide.ensures.0,
-      t.0,
-      t.1,
-    ) (padded _ _ _ (search rules) (pad_at _ (search rules)))
+    let a = c.args.a in
+    let b = c.args.b in
+    let e : get_or c.args.exp.now c.wide-3.result 0 ≡ get_or pad_powers ((get_or pad_logs a 0 + get_or pad_logs b 0) % 256) 0 = cc in
+    e ∙ padded a b _ (search rules) (pad_at b (search rules))

@@ -1,5 +1,4 @@
-use Rattle.std.proofs.Common.{◌≡◌, ◌-◌, ◌≤◌, ◌++◌, length, drop, refl, arith, rules}
-use Rattle.bits.specs.Table.{table}
+use Rattle.std.proofs.Common.{refl, arith}
 use Rattle.bits.proofs.TableLaws.{fill_start, fill_step}
 use Rattle.parity_making.specs.Walk.{walked}
 use Rattle.parity_making.proofs.WalkLaws.{walk_step, fill_last}

@@ -1,8 +1,6 @@
-use Rattle.std.proofs.Common.{◌≡◌, ◌-◌, ◌≤◌, ◌++◌, length, drop, refl, arith, rules}
+use Rattle.std.proofs.Common.{◌≡◌, ◌-◌, ◌≤◌, ◌++◌, length, drop}
 use Rattle.bits.specs.Table.{table}
-use Rattle.bits.proofs.TableLaws.{fill_start, fill_step}
 use Rattle.parity_making.specs.Walk.{walked}
-use Rattle.parity_making.proofs.WalkLaws.{walk_step, fill_last}
 use Rattle.parity_making.proofs.walk.Given as goal
 
 abbrev pub invariant-loop-k : goal.invariant-loop-k

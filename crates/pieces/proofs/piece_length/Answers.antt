@@ -1,8 +1,5 @@
-use borrow.Author.Rules.{rules}
 use native.Mathlib.Omega.{arith}
-use Prim.Native.Nat.{◌-◌, ◌≤◌}
-use mathlib.Core.Path.{◌≡◌, sym, ◌∙◌, refl}
-use Rattle.pieces.specs.Pieces.{piece_from}
+use mathlib.Core.Path.{sym, ◌∙◌, refl}
 use Rattle.pieces.proofs.PieceLaws.{from_hit, from_miss, from_end, at_start, searched}
 use Rattle.pieces.proofs.piece_length.Goals as goal
 

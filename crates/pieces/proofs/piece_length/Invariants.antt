@@ -1,9 +1,6 @@
-use borrow.Author.Rules.{rules}
-use native.Mathlib.Omega.{arith}
 use Prim.Native.Nat.{◌-◌, ◌≤◌}
-use mathlib.Core.Path.{◌≡◌, sym, ◌∙◌, refl}
+use mathlib.Core.Path.{◌≡◌}
 use Rattle.pieces.specs.Pieces.{piece_from}
-use Rattle.pieces.proofs.PieceLaws.{from_hit, from_miss, from_end, at_start, searched}
 use Rattle.pieces.proofs.piece_length.Given as goal
 
 abbrev pub invariant-loop-p : goal.invariant-loop-p

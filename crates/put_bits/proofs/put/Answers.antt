@@ -1,8 +1,5 @@
 use native.Mathlib.Omega.{arith}
-use Prim.Native.Nat.{◌≤◌}
 use mathlib.Core.Path.{◌≡◌, sym, ◌∙◌, refl}
-use lib.ListN.{length}
-use Rattle.bits.specs.Bits.{put_at}
 use Rattle.bits.proofs.PutLaws.{put_step, put_none}
 use Rattle.put_bits.proofs.put.Goals as goal
 
@@ -21,12 +18,6 @@ set_bit-requires c = omega arith
 pub loop-k-smaller : goal.loop-k-smaller
 loop-k-smaller c = omega arith
 
-pub loop-k-preserved : goal.loop-k-preserved
-loop-k-preserved c =
-    let i = c.loop-k in
-    let a = c.args in
-    (omega arith, c.set_bit.auto.0 ∙ i.invariant.1, rw c.set_bit.ensures (sym (put_step i.room a.at i.k i.x (omega arith)) ∙ i.invariant.2))
-
 pub shape_of-room : goal.shape_of-room
 shape_of-room c = c.loop-k.invariant.1
 
@@ -35,3 +26,9 @@ returns c =
     let i = c.loop-k in
     let e : i.k ≡ 0 = omega arith in
     sym (put_none _ _ _) ∙ rw e at i.invariant.2
+
+pub loop-k-preserved : goal.loop-k-preserved
+loop-k-preserved c =
+    let i = c.loop-k in
+    let a = c.args in
+    (omega arith, c.set_bit.auto.room ∙ i.invariant.1, rw c.set_bit.ensures (sym (put_step i.room a.at i.k i.x (omega arith)) ∙ i.invariant.2))

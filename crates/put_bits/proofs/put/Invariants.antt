@@ -1,9 +1,7 @@
-use native.Mathlib.Omega.{arith}
 use Prim.Native.Nat.{◌≤◌}
-use mathlib.Core.Path.{◌≡◌, sym, ◌∙◌, refl}
+use mathlib.Core.Path.{◌≡◌}
 use lib.ListN.{length}
 use Rattle.bits.specs.Bits.{put_at}
-use Rattle.bits.proofs.PutLaws.{put_step, put_none}
 use Rattle.put_bits.proofs.put.Given as goal
 
 abbrev pub invariant-loop-k : goal.invariant-loop-k

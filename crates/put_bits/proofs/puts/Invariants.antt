@@ -1,12 +1,7 @@
-use borrow.Author.Rules.{rules}
-use native.Mathlib.Omega.{arith}
 use Prim.Native.Nat.{◌+◌, ◌*◌, ◌-◌, ◌≤◌}
-use mathlib.Core.Path.{◌≡◌, sym, ◌∙◌, refl}
-use lib.ListN.{length, drop, get_or}
-use mir.Val.{Fits}
-use mir.Syntax.{w8}
+use mathlib.Core.Path.{◌≡◌}
+use lib.ListN.{length, drop}
 use Rattle.bits.specs.Bits.{puts_at}
-use Rattle.bits.proofs.RowLaws.{puts_step, puts_end}
 use Rattle.put_bits.proofs.puts.Given as goal
 
 abbrev pub invariant-loop-i : goal.invariant-loop-i

@@ -1,4 +1,3 @@
-use borrow.Author.Rules.{rules}
 use native.Mathlib.Omega.{arith}
 use lib.Pow.{shr_le, pow_pos}
 use Rattle.bits.specs.Bits.{byte_with}

@@ -1,4 +1,3 @@
-use borrow.Author.Rules.{rules}
 use borrow.Author.Tests.{eq-eqb, ne_eqb}
 use Rattle.contents.specs.Parts.{codes_in, contents_at}
 use Rattle.reading.proofs.codes_of.Goals as goal

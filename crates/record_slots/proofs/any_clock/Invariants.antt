@@ -1,12 +1,8 @@
-use borrow.Author.Rules.{rules}
-use native.Mathlib.Omega.{arith}
-use Prim.Native.Nat.{ℕ, ◌≤◌}
-use mathlib.Core.Path.{◌≡◌, ap, ◌∙◌}
-use lib.ListN.{drop, get_or}
+use Prim.Native.Nat.{◌≤◌}
+use mathlib.Core.Path.{◌≡◌}
+use lib.ListN.{drop}
 use Rattle.bits.specs.Some.{any_of}
-use Rattle.records.specs.Clock.{blank_clock}
 use Rattle.judge.specs.Judge.{is_named, clock_slots}
-use Rattle.judge.proofs.JudgeLaws.{named_end, named_turn}
 use Rattle.record_slots.proofs.any_clock.Given as goal
 
 abbrev pub invariant-loop-i : goal.invariant-loop-i

@@ -1,11 +1,7 @@
-use native.Mathlib.Omega.{arith}
-use borrow.Author.Rules.{rules}
 use Prim.Native.Nat.{◌-◌, ◌≤◌}
-use mathlib.Core.Path.{◌≡◌, sym, ◌∙◌, refl}
+use mathlib.Core.Path.{◌≡◌}
 use lib.ListN.{length, drop}
-use borrow.Author.Tests.{lt-ltb, le-ltb}
 use Rattle.bits.specs.Some.{any_of}
-use Rattle.bits.proofs.SomeLaws.{some_hit, some_miss, some_end}
 use Rattle.judge.specs.Judge.{is_high}
 use Rattle.record_slots.proofs.any_high.Given as goal
 

@@ -1,9 +1,7 @@
 use native.Mathlib.Omega.{arith}
 use borrow.Author.Rules.{rules}
-use Prim.Native.Nat.{◌-◌, ◌≤◌}
-use mathlib.Core.Path.{◌≡◌, sym, ◌∙◌, refl}
-use lib.ListN.{length, drop}
-use Rattle.bits.specs.Some.{any_of}
+use Prim.Native.Nat.{◌-◌}
+use mathlib.Core.Path.{sym, ◌∙◌, refl}
 use Rattle.bits.proofs.SomeLaws.{some_hit, some_miss, some_end}
 use Rattle.judge.specs.Judge.{is_again}
 use Rattle.record_slots.proofs.any_twice.Goals as goal

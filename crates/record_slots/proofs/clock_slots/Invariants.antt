@@ -1,12 +1,8 @@
-use native.Mathlib.Omega.{arith}
-use borrow.Author.Rules.{rules}
 use Prim.Native.Nat.{ℕ, ◌-◌, ◌≤◌}
-use mathlib.Core.Path.{◌≡◌, refl}
+use mathlib.Core.Path.{◌≡◌}
 use mathlib.Core.List.{◌++◌}
 use lib.ListN.{length, drop, get_or}
 use Rattle.bits.specs.Table.{table}
-use Rattle.bits.proofs.TableLaws.{fill_start, fill_step, fill_done}
-use Rattle.judge.specs.Judge.{clock_slots}
 use Rattle.records.specs.Clock.{blank_clock}
 use Rattle.record_slots.proofs.clock_slots.Given as goal
 

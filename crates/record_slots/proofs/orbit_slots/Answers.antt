@@ -1,13 +1,8 @@
 use native.Mathlib.Omega.{arith}
-use borrow.Author.Rules.{rules}
-use Prim.Native.Nat.{ℕ, ◌-◌, ◌≤◌}
-use mathlib.Core.Path.{◌≡◌, refl}
-use mathlib.Core.List.{◌++◌}
-use lib.ListN.{length, drop, get_or}
-use Rattle.bits.specs.Table.{table}
+use Prim.Native.Nat.{◌-◌}
+use mathlib.Core.Path.{refl}
 use Rattle.bits.proofs.TableLaws.{fill_start, fill_step, fill_done}
 use Rattle.judge.specs.Judge.{orbit_slots}
-use Rattle.records.specs.Orbit.{blank_orbit}
 use Rattle.record_slots.proofs.orbit_slots.Goals as goal
 
 pub loop-i-init : goal.loop-i-init

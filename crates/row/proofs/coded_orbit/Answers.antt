@@ -1,4 +1,3 @@
-use borrow.Author.Rules.{rules}
 use Rattle.row.proofs.coded_orbit.Goals as goal
 
 pub returns : goal.returns

@@ -1,4 +1,3 @@
-use borrow.Author.Rules.{rules}
 use Rattle.row.proofs.ura_by.Goals as goal
 
 pub returns-then-k : goal.returns-then-k

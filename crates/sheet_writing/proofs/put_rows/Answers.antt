@@ -23,7 +23,7 @@ loop-i-preserved-in_default c =
     let l = c.loop-i in
     let a = c.args in
     let f = row_in a.ledger.now a.issues.now in
-    let e = row_next a.ledger.now a.issues.now l.i ∙ refused_none _ _ (sym c.slot_row-a.ensures ∙ ap row_says c.enum_told-1.given.1) in
+    let e = row_next a.ledger.now a.issues.now l.i ∙ refused_none _ _ (sym c.slot_row-a.ensures ∙ ap row_says c.in_default.is) in
     let s = rows_none f 255 l.i (l.i + 1) (omega arith) e in
     let n = ap (λ (rs : List Row). length rs) s in
     (omega arith, l.invariant.1, l.invariant.2, omega (arith, l.invariant.3), omega (arith, l.invariant.4), ap (λ (rs : List Row). store_at l.room l.at (row_fields rs)) (sym s) ∙ l.invariant.5)
@@ -33,15 +33,14 @@ loop-i-preserved c =
     let l = c.loop-i in
     let a = c.args in
     let f = row_in a.ledger.now a.issues.now in
-    let e = row_next a.ledger.now a.issues.now l.i ∙ found_some _ _ (sym c.slot_row-a.ensures ∙ ap row_says c.a-1.given.1) in
+    let e = row_next a.ledger.now a.issues.now l.i ∙ found_some _ _ (sym c.slot_row-a.ensures ∙ ap row_says c.in-Found.is) in
     let s = rows_one f 255 l.i (l.i + 1) _ (omega arith) e in
     let n = ap (λ (rs : List Row). length rs) s in
-    let g = c.room-1.given.1 in
     let w : 24 ≤ length l.room - l.at = omega (arith, l.invariant.4) in
     let u : l.at + (length l.room - l.at) ≤ length l.room = omega (arith, l.invariant.4) in (
       omega arith,
       l.invariant.1,
-      g ∙ l.invariant.2,
+      omega arith,
       omega (arith, l.invariant.3),
       omega (arith, l.invariant.4),
       put_next l.room _ l.at _ _ _ u w c.put_row.ensures ∙ ap (λ (rs : List Row). store_at l.room l.at (row_fields rs)) (sym s) ∙ l.invariant.5,
@@ -53,4 +52,7 @@ returns c =
     let a = c.args in
     let s = rows_end (row_in a.ledger.now a.issues.now) 255 l.i (l.i + 1) (omega arith) in
     let n = ap (λ (rs : List Row). length rs) s in
-    (omega (arith, l.invariant.3), sym (put_over l.room l.at) ∙ ap (λ (rs : List Row). store_at l.room l.at (row_fields rs)) (sym s) ∙ l.invariant.5)
+    record {
+      offset = omega (arith, l.invariant.3);
+      bytes = sym (put_over l.room l.at) ∙ ap (λ (rs : List Row). store_at l.room l.at (row_fields rs)) (sym s) ∙ l.invariant.5;
+    }

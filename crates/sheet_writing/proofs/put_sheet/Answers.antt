@@ -11,6 +11,6 @@ returns c =
     let h = c.put_header in
     let a = c.args in
     let p = c.requires in
-    let w : 3 ≤ length r.new.0 - r.result = omega (arith, r.auto.0, h.auto.0, r.ensures.0, p.1) in
-    let u : r.result + (length r.new.0 - r.result) ≤ length r.new.0 = omega (arith, w) in
-    put_whole a.room.now h.new.0 r.new.0 _ r.result _ a.h _ h.ensures r.ensures.1 c.put_end.ensures r.ensures.0 u w
+    let w : 3 ≤ length r.new.room - r.result = omega (arith, r.auto.room, h.auto.room, r.ensures.offset, p.1) in
+    let u : r.result + (length r.new.room - r.result) ≤ length r.new.room = omega (arith, w) in
+    put_whole a.room.now h.new.room r.new.room _ r.result _ a.h _ h.ensures r.ensures.bytes c.put_end.ensures r.ensures.offset u w

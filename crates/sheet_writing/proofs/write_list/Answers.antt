@@ -1,7 +1,6 @@
 use borrow.Author.Rules.{rules}
 use Prim.Native.Nat.{ℕ, ◌≤◌}
 use mathlib.Core.Path.{sym, ◌∙◌, subst}
-use borrow.Author.Tests.{not-true, not-false}
 use lib.ListN.{length}
 use Rattle.broadcast.proofs.IssueLaws.{issues_long}
 use Rattle.list.specs.Rows.{list_in, most_rows}
@@ -12,11 +11,15 @@ use Rattle.sheet_writing.proofs.write_list.Goals as goal
 
 pub returns-then-not-has_mask : goal.returns-then-not-has_mask
 returns-then-not-has_mask c =
-    right_20 _ _ c.args.room.now c.requires.0 _ c.requires.1 (sym c.has_mask.ensures ∙ not-true _ c.if-not-has_mask.true)
+    let a = c.args in
+    let p = right_20 a.ledger.now a.issues.now a.room.now c.requires.0 _ c.requires.1 (sym c.has_mask.ensures ∙ c.if-not-has_mask.true) in
+    record { answer = p.0; bytes = p.1 }
 
 pub returns-then-room-size : goal.returns-then-room-size
 returns-then-room-size c =
-    right_22 _ _ c.args.room.now c.requires.0 _ c.requires.1 (sym c.has_mask.ensures ∙ not-false _ c.if-not-has_mask.false) c.if-room-size.true
+    let a = c.args in
+    let p = right_22 a.ledger.now a.issues.now a.room.now c.requires.0 _ c.requires.1 (sym c.has_mask.ensures ∙ c.if-not-has_mask.false) c.if-room-size.true in
+    record { answer = p.0; bytes = p.1 }
 
 pub put_sheet-requires : goal.put_sheet-requires
 put_sheet-requires c =
@@ -30,5 +33,8 @@ overflow_cast-result c =
 
 pub returns : goal.returns
 returns c =
-    right_written _ _ c.args.room.now c.requires.0 _ c.requires.1 (sym c.has_mask.ensures ∙ not-false _ c.if-not-has_mask.false)
-    _ _ c.if-room-size.false c.header_of-h.ensures c.put_sheet.ensures
+    let a = c.args in
+    let p =
+      right_written a.ledger.now a.issues.now a.room.now c.requires.0 _ c.requires.1 (sym c.has_mask.ensures ∙ c.if-not-has_mask.false)
+      _ _ c.if-room-size.false c.header_of-h.ensures c.put_sheet.ensures in
+    record { answer = p.0; bytes = p.1 }

@@ -7,10 +7,11 @@ use Rattle.sheet_writing.proofs.write_sheet.Goals as goal
 pub write_list-requires : goal.write_list-requires
 write_list-requires c =
     let a = c.args in
-    count_rows a.ledger.now a.issues.now _ (sym (ap count_says c.count-1.given.1) ∙ c.row_count-count.ensures)
+    count_rows a.ledger.now a.issues.now _ (sym (ap count_says c.in-Rows.is) ∙ c.row_count-count.ensures)
 
 pub returns-in-Refused : goal.returns-in-Refused
 returns-in-Refused c =
     let a = c.args in
-    let e = count_refused a.ledger.now a.issues.now _ (sym (ap count_says c.count-in-Refused-1.given.1) ∙ c.row_count-count.ensures) in
-    right_issues _ _ a.room.now _ e.0 e.1
+    let e = count_refused a.ledger.now a.issues.now _ (sym (ap count_says c.in-Refused.is) ∙ c.row_count-count.ensures) in
+    let p = right_issues a.ledger.now a.issues.now a.room.now _ e.0 e.1 in
+    record { answer = p.0; bytes = p.1 }

@@ -10,7 +10,8 @@ pub returns : goal.returns
 returns c =
     let a = c.args in
     let p = lent_part a.t.now a.i in
-    let e = c.take_in.ensures in (
-      e.0 ∙ ap (λ (r : List ℕ). take_says r a.frame.now) p,
-      back_part a.t.now _ _ a.i (e.1 ∙ ap (λ (r : List ℕ). take_bytes r a.frame.now) p),
-    )
+    let e = c.take_in.ensures in
+    record {
+      verdict = e.verdict ∙ ap (λ (r : List ℕ). take_says r a.frame.now) p;
+      bytes = back_part a.t.now _ _ a.i (e.bytes ∙ ap (λ (r : List ℕ). take_bytes r a.frame.now) p);
+    }

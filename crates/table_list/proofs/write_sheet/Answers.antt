@@ -13,7 +13,7 @@ unfolding sheet_answer_for sheet_room_for
 returns-then-why-ne0 c =
     let e = c.asking_refusal-why.ensures in
     let room = c.args.room.now in
-    (alone {A = ℕ × Option ℕ} (λ (n : ℕ). (n, none)) _ _ _ e c.if-why-ne0.true, alone (λ (n : ℕ). room) _ _ _ e c.if-why-ne0.true)
+    record { answer = alone {A = ℕ × Option ℕ} (λ (n : ℕ). (n, none)) _ _ _ e c.if-why-ne0.true; bytes = alone (λ (n : ℕ). room) _ _ _ e c.if-why-ne0.true }
 
 pub returns : goal.returns
 unfolding sheet_answer_for sheet_room_for
@@ -21,7 +21,8 @@ returns c =
     let a = c.args in
     let w = c.write_sheet.ensures in
     let l = c.ledger_for.ensures in
-    let e = c.asking_refusal-why.ensures in (
-      answered _ _ _ _ e c.if-why-ne0.false _ (w.0 ∙ ap (λ (s : List ℕ). sheet_answer s a.issues.now a.room.now) l),
-      answered _ _ _ _ e c.if-why-ne0.false _ (w.1 ∙ ap (λ (s : List ℕ). sheet_room s a.issues.now a.room.now) l),
-    )
+    let e = c.asking_refusal-why.ensures in
+    record {
+      answer = answered _ _ _ _ e c.if-why-ne0.false _ (w.answer ∙ ap (λ (s : List ℕ). sheet_answer s a.issues.now a.room.now) l);
+      bytes = answered _ _ _ _ e c.if-why-ne0.false _ (w.bytes ∙ ap (λ (s : List ℕ). sheet_room s a.issues.now a.room.now) l);
+    }

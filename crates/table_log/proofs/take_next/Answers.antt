@@ -15,26 +15,30 @@ returns-then-s-lt125 c =
     let a = c.args in
     let n = step_rest a.t.now a.s.now c.if-s-lt125.true in
     let e = c.take_first.ensures in
-    (n, (e.0 ∙ ap (λ (k : ℕ). taking_says a.t.now (take k a.s.now)) n, e.1 ∙ ap (λ (k : ℕ). taking_bytes a.t.now (take k a.s.now)) n))
+    record {
+      length = n;
+      verdict = e.verdict ∙ ap (λ (k : ℕ). taking_says a.t.now (take k a.s.now)) n;
+      bytes = e.bytes ∙ ap (λ (k : ℕ). taking_bytes a.t.now (take k a.s.now)) n;
+    }
 
 pub returns-then-n-eq125 : goal.returns-then-n-eq125
 returns-then-n-eq125 c =
     let a = c.args in
     let e = c.take_first-v.ensures in
     let h : 125 ≤ length a.s.now = omega (arith, c.if-s-lt125.false) in
-    let number = c.number_of.ensures ∙ ap number_in e.0 in
+    let number = c.number_of.ensures ∙ ap number_in e.verdict in
     let n = c.length_after-n.ensures ∙ length_right a.t.now a.s.now h _ number in
     let whole = sym c.if-n-eq125.true ∙ n in
-    let says = e.0 ∙ ap (λ (k : ℕ). taking_says a.t.now (take k a.s.now)) whole in
-    let bytes = e.1 ∙ ap (λ (k : ℕ). taking_bytes a.t.now (take k a.s.now)) whole in
-    (n, (says, bytes))
+    let says = e.verdict ∙ ap (λ (k : ℕ). taking_says a.t.now (take k a.s.now)) whole in
+    let bytes = e.bytes ∙ ap (λ (k : ℕ). taking_bytes a.t.now (take k a.s.now)) whole in
+    record { length = n; verdict = says; bytes = bytes }
 
 pub take_first-requires-2 : goal.take_first-requires-2
 take_first-requires-2 c =
     let a = c.args in
     let e = c.take_first-v.ensures in
     let h : 125 ≤ length a.s.now = omega (arith, c.if-s-lt125.false) in
-    let number = c.number_of.ensures ∙ ap number_in e.0 in
+    let number = c.number_of.ensures ∙ ap number_in e.verdict in
     let n = c.length_after-n.ensures ∙ length_right a.t.now a.s.now h _ number in
     omega (arith, n, piece_within a.s.now)
 
@@ -43,14 +47,13 @@ returns c =
     let a = c.args in
     let e = c.take_first-v.ensures in
     let h : 125 ≤ length a.s.now = omega (arith, c.if-s-lt125.false) in
-    let number = c.number_of.ensures ∙ ap number_in e.0 in
+    let number = c.number_of.ensures ∙ ap number_in e.verdict in
     let n = c.length_after-n.ensures ∙ length_right a.t.now a.s.now h _ number in
-    let same = e.1 ∙ step_other a.t.now a.s.now h _ number (λ z. c.if-n-eq125.false (n ∙ z)) in
+    let same = e.bytes ∙ step_other a.t.now a.s.now h _ number (λ z. c.if-n-eq125.false (n ∙ z)) in
     let p = c.take_first-2.ensures in
-    let k = c.length_after-n.result in (
-      n,
-      (
-        p.0 ∙ ap (λ (u : List ℕ). taking_says u (take k a.s.now)) same ∙ ap (λ (j : ℕ). taking_says a.t.now (take j a.s.now)) n,
-        p.1 ∙ ap (λ (u : List ℕ). taking_bytes u (take k a.s.now)) same ∙ ap (λ (j : ℕ). taking_bytes a.t.now (take j a.s.now)) n,
-      ),
-    )
+    let k = c.length_after-n.result in
+    record {
+      length = n;
+      verdict = p.verdict ∙ ap (λ (u : List ℕ). taking_says u (take k a.s.now)) same ∙ ap (λ (j : ℕ). taking_says a.t.now (take j a.s.now)) n;
+      bytes = p.bytes ∙ ap (λ (u : List ℕ). taking_bytes u (take k a.s.now)) same ∙ ap (λ (j : ℕ). taking_bytes a.t.now (take j a.s.now)) n;
+    }

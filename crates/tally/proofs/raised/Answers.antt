@@ -1,4 +1,3 @@
-use borrow.Author.Rules.{rules}
 use native.Mathlib.Omega.{arith}
 use Rattle.tally.specs.Tally.{raised_of}
 use Rattle.tally.proofs.CountLaws.{none_counted, far_counted, is_counted_lem, raised_not}

@@ -1,19 +1,12 @@
-use borrow.Author.Rules.{rules}
 use native.Mathlib.Omega.{arith}
-use Prim.Native.Nat.{ℕ, ◌*◌, ◌-◌, ◌≤◌}
-use mathlib.Core.Path.{◌≡◌, ap, refl}
-use mathlib.Core.List.{◌++◌, List}
-use lib.ListN.{length, drop}
-use Rattle.bits.specs.Table.{table}
+use Prim.Native.Nat.{ℕ}
+use mathlib.Core.Path.{ap, refl}
+use mathlib.Core.List.{List}
 use Rattle.bits.proofs.TableLaws.{fill_start, fill_step, fill_done}
-use Rattle.lent.specs.Digits.{four_at}
 use Rattle.tally.specs.Tally.{tally_of}
 use Rattle.tally.specs.declared.Tally.{Tally}
+use Rattle.tally.proofs.tally_of.Invariants.{counter}
 use Rattle.tally.proofs.tally_of.Goals as goal
-
--- the counter of number i
-counter : List ℕ → ℕ → ℕ
-counter y i = four_at y (4 * i)
 
 -- the counters as a tally
 abbrev made : List ℕ → Tally

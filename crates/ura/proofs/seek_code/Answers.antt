@@ -1,7 +1,6 @@
 use native.Mathlib.Omega.{arith}
-use Prim.Native.Nat.{◌-◌, ◌≤◌}
-use mathlib.Core.Path.{◌≡◌, sym, ◌∙◌, refl}
-use Rattle.ura.specs.Ura.{code_from}
+use Prim.Native.Nat.{◌-◌}
+use mathlib.Core.Path.{sym, ◌∙◌, refl}
 use Rattle.ura.proofs.UraLaws.{code_hit, code_miss, code_none}
 use Rattle.ura.proofs.seek_code.Goals as goal
 

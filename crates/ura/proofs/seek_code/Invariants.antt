@@ -1,8 +1,6 @@
-use native.Mathlib.Omega.{arith}
 use Prim.Native.Nat.{◌-◌, ◌≤◌}
-use mathlib.Core.Path.{◌≡◌, sym, ◌∙◌, refl}
+use mathlib.Core.Path.{◌≡◌}
 use Rattle.ura.specs.Ura.{code_from}
-use Rattle.ura.proofs.UraLaws.{code_hit, code_miss, code_none}
 use Rattle.ura.proofs.seek_code.Given as goal
 
 abbrev pub invariant-loop-c : goal.invariant-loop-c

@@ -1,4 +1,3 @@
-use borrow.Author.Rules.{rules}
 use Rattle.ura_codes.proofs.read_codes.Goals as goal
 
 pub returns : goal.returns

@@ -1,12 +1,8 @@
 use native.Mathlib.Omega.{arith}
-use borrow.Author.Rules.{rules}
-use Prim.Native.Nat.{◌-◌, ◌≤◌}
-use mathlib.Core.Path.{◌≡◌, refl}
-use mathlib.Core.List.{◌++◌}
-use lib.ListN.{length, drop}
-use Rattle.bits.specs.Table.{table}
+use Prim.Native.Nat.{◌-◌}
+use mathlib.Core.Path.{refl}
 use Rattle.bits.proofs.TableLaws.{fill_start, fill_step, fill_done}
-use Rattle.ura_codes.specs.Codes.{code_nth, codes_at}
+use Rattle.ura_codes.specs.Codes.{codes_at}
 use Rattle.ura_codes.proofs.read_row.Goals as goal
 
 pub loop-i-init : goal.loop-i-init

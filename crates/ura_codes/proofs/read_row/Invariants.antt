@@ -1,12 +1,9 @@
-use native.Mathlib.Omega.{arith}
-use borrow.Author.Rules.{rules}
 use Prim.Native.Nat.{◌-◌, ◌≤◌}
-use mathlib.Core.Path.{◌≡◌, refl}
+use mathlib.Core.Path.{◌≡◌}
 use mathlib.Core.List.{◌++◌}
 use lib.ListN.{length, drop}
 use Rattle.bits.specs.Table.{table}
-use Rattle.bits.proofs.TableLaws.{fill_start, fill_step, fill_done}
-use Rattle.ura_codes.specs.Codes.{code_nth, codes_at}
+use Rattle.ura_codes.specs.Codes.{code_nth}
 use Rattle.ura_codes.proofs.read_row.Given as goal
 
 abbrev pub invariant-loop-i : goal.invariant-loop-i

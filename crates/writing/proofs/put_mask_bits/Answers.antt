@@ -12,12 +12,6 @@ use Rattle.writing.proofs.put_mask_bits.Goals as goal
 pub loop-i-init : goal.loop-i-init
 loop-i-init c = (omega arith, refl, sym (rows_none _ _ _ _))
 
-pub loop-i-preserved : goal.loop-i-preserved
-unfolding puts_at
-loop-i-preserved c =
-    let l = c.loop-i in
-    (omega arith, c.put.auto.0 ∙ l.invariant.1, rw (rows_step, ← l.invariant.2, one-mul l.i, ← c.mask_bit-b.ensures) c.put.ensures)
-
 pub shape_of-room : goal.shape_of-room
 shape_of-room c = c.loop-i.invariant.1
 

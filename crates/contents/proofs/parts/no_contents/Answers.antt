@@ -1,4 +1,3 @@
-use borrow.Author.Rules.{rules}
 use Rattle.contents.specs.Parts.{no_contents}
 use Rattle.contents.proofs.parts.no_contents.Goals as goal
 

@@ -1,4 +1,3 @@
-use borrow.Author.Rules.{rules}
 use Rattle.bits.specs.Table.{table}
 use Rattle.contents.specs.Parts.{no_orbits}
 use Rattle.contents.proofs.parts.no_orbits.Goals as goal

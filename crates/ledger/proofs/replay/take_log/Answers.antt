@@ -16,8 +16,8 @@ loop-i-preserved c =
     let l = c.loop-i in
     let a = c.args in (
       omega arith,
-      c.take_nth.auto.0 ∙ l.invariant.1,
-      c.take_nth.ensures.1
+      c.take_nth.auto.t ∙ l.invariant.1,
+      c.take_nth.ensures.bytes
           ∙ ap (λ (s : List ℕ). take_bytes s (frame_at a.log.now l.i)) l.invariant.2
           ∙ sym (run_step a.t.now a.log.now l.i),
     )

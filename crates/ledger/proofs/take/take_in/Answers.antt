@@ -10,7 +10,8 @@ returns-then-number_of-ne0 c =
     let s = c.args.t.now in
     let f = c.args.frame.now in
     let shell = c.shell_for-shell.ensures ∙ ap (λ (p : ℕ). shell_for p f) c.ledger_prn.ensures in
-    way_shut s f _ shell (λ z. c.if-number_of-ne0.true (c.number_of.ensures ∙ z))
+    let both = way_shut s f _ shell (λ z. c.if-number_of-ne0.true (c.number_of.ensures ∙ z)) in
+    record { verdict = both.0; bytes = both.1 }
 
 pub take_message-requires : goal.take_message-requires
 take_message-requires c =

@@ -17,7 +17,8 @@ returns-then-n-ne0 c =
     let s = c.args.t.now in
     let f = c.args.frame.now in
     let judged = (rw (kind, clock, orbit) at c.refusal_of_parts-n.ensures) ∙ parts_refusal_at f 28 c.requires.1 c.requires.2 c.requires.3 in
-    way_judged s f c.requires.0 _ judged c.if-n-ne0.true
+    let both = way_judged s f c.requires.0 _ judged c.if-n-ne0.true in
+    record { verdict = both.0; bytes = both.1 }
 
 pub returns-then-number_of-ne0 : goal.returns-then-number_of-ne0
 returns-then-number_of-ne0 c =
@@ -29,7 +30,8 @@ returns-then-number_of-ne0 c =
     let judged = (rw (kind, clock, orbit) at c.refusal_of_parts-n.ensures) ∙ parts_refusal_at f 28 c.requires.1 c.requires.2 c.requires.3 in
     let placed = c.place_verdict-placed in
     let said = (rw (kind, clock) at placed.ensures) ∙ ap (place_says (mask_at s)) (sym (refusal_other (mask_at s) (contents_of f) c.requires.3)) in
-    way_refused s f c.requires.0 _ judged c.if-n-ne0.false _ said (λ z. c.if-number_of-ne0.true (c.number_of.ensures ∙ z))
+    let both = way_refused s f c.requires.0 _ judged c.if-n-ne0.false _ said (λ z. c.if-number_of-ne0.true (c.number_of.ensures ∙ z)) in
+    record { verdict = both.0; bytes = both.1 }
 
 pub returns : goal.returns
 returns c =
@@ -44,4 +46,5 @@ returns c =
     let free = sym c.number_of.ensures ∙ c.if-number_of-ne0.false in
     let clocks = rw (kind, clock) at c.take_clocks.ensures in
     let orbits = rw (kind, orbit, clocks) at c.take_orbits.ensures in
-    way_taken s f c.requires.0 _ judged c.if-n-ne0.false _ said free _ (orbits ∙ sym (taken_parts s (contents_of f) c.requires.1 c.requires.3))
+    let both = way_taken s f c.requires.0 _ judged c.if-n-ne0.false _ said free _ (orbits ∙ sym (taken_parts s (contents_of f) c.requires.1 c.requires.3)) in
+    record { verdict = both.0; bytes = both.1 }

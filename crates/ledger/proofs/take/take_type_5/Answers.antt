@@ -15,7 +15,8 @@ returns-then-n-ne0 c =
     let s = c.args.t.now in
     let f = c.args.frame.now in
     let judged = c.refusal_of_codes-n.ensures ∙ ap codes_refusal_of c.codes_of-u.ensures ∙ codes_refusal_at f 28 c.requires.1 in
-    way_judged s f c.requires.0 _ judged c.if-n-ne0.true
+    let both = way_judged s f c.requires.0 _ judged c.if-n-ne0.true in
+    record { verdict = both.0; bytes = both.1 }
 
 pub returns-then-placed-ne0 : goal.returns-then-placed-ne0
 returns-then-placed-ne0 c =
@@ -26,7 +27,8 @@ returns-then-placed-ne0 c =
     let placed = rw c.codes_of-u.ensures at c.code_refusal-placed.ensures in
     let plain = plain_says (mask_at s) c.code_refusal-placed.result c.if-placed-ne0.true (λ e. code_alone (mask_at s) (contents_of f).code (sym placed ∙ e)) in
     let said = plain ∙ ap (place_says (mask_at s)) (placed ∙ sym (refusal_5 (mask_at s) (contents_of f) kind)) in
-    way_refused s f c.requires.0 _ judged c.if-n-ne0.false _ said c.if-placed-ne0.true
+    let both = way_refused s f c.requires.0 _ judged c.if-n-ne0.false _ said c.if-placed-ne0.true in
+    record { verdict = both.0; bytes = both.1 }
 
 pub returns : goal.returns
 returns c =
@@ -37,4 +39,5 @@ returns c =
     let placed = rw c.codes_of-u.ensures at c.code_refusal-placed.ensures in
     let free = refusal_5 (mask_at s) (contents_of f) kind ∙ sym placed ∙ c.if-placed-ne0.false in
     let codes = rw c.codes_of-u.ensures at c.take_codes.ensures in
-    way_free s f c.requires.0 _ judged c.if-n-ne0.false free _ (codes ∙ sym (taken_5 s (contents_of f) kind))
+    let both = way_free s f c.requires.0 _ judged c.if-n-ne0.false free _ (codes ∙ sym (taken_5 s (contents_of f) kind)) in
+    record { verdict = both.0; bytes = both.1 }

@@ -13,7 +13,8 @@ returns-then-n-ne0 c =
     let s = c.args.t.now in
     let f = c.args.frame.now in
     let judged = (rw (c.end_at.ensures, c.read_heads-b.ensures) at c.refusal_of_biases-n.ensures) ∙ heads_refusal_at f 28 c.requires.1 in
-    way_judged s f c.requires.0 _ judged c.if-n-ne0.true
+    let both = way_judged s f c.requires.0 _ judged c.if-n-ne0.true in
+    record { verdict = both.0; bytes = both.1 }
 
 pub returns : goal.returns
 returns c =
@@ -21,4 +22,5 @@ returns c =
     let f = c.args.frame.now in
     let kind = c.requires.1 in
     let judged = (rw (c.end_at.ensures, c.read_heads-b.ensures) at c.refusal_of_biases-n.ensures) ∙ heads_refusal_at f 28 kind in
-    way_free s f c.requires.0 _ judged c.if-n-ne0.false (biases_free (contents_of f) kind (mask_at s)) s (sym (taken_3 s (contents_of f) kind))
+    let both = way_free s f c.requires.0 _ judged c.if-n-ne0.false (biases_free (contents_of f) kind (mask_at s)) s (sym (taken_3 s (contents_of f) kind)) in
+    record { verdict = both.0; bytes = both.1 }

@@ -1,16 +1,9 @@
-use borrow.Author.Rules.{rules}
-use native.Mathlib.Omega.{arith}
-use Prim.Native.Nat.{ℕ, ◌+◌, ◌-◌, ◌≤◌, ◌<◌}
-use mathlib.Core.Path.{◌≡◌, sym, ap, ◌∙◌}
+use Prim.Native.Nat.{◌+◌, ◌-◌, ◌≤◌}
+use mathlib.Core.Path.{◌≡◌}
 use lib.ListN.{length}
-use mathlib.Core.Logic.{inl}
 use Rattle.lookback.specs.Walk.{nth_row_from, nth_of}
-use Rattle.lookback.proofs.WalkLaws.{nth_hit, nth_pass, nth_skip, nth_end, nth_rows, nth_missing}
-use Rattle.row.specs.Row.{row_says, answer_of}
 use Rattle.list.specs.Rows.{row_in, list_in}
 use Rattle.row.specs.declared.RowAnswer.TheVariants as answer
-use Rattle.list.proofs.AnswerLaws.{at_bad, at_right, found_some, refused_none, row_next}
-use Rattle.broadcast.proofs.IssueLaws.{issues_long}
 use Rattle.list.proofs.rows.row_at.Given as goal
 
 abbrev pub invariant-loop-i : goal.invariant-loop-i

@@ -1,17 +1,9 @@
-use borrow.Author.Rules.{rules}
-use native.Mathlib.Omega.{arith}
-use Prim.Native.Nat.{ℕ, ◌+◌, ◌-◌, ◌≤◌}
-use mathlib.Core.Path.{◌≡◌, sym, ap, ◌∙◌}
-use lib.ListN.{length, get_or}
-use Rattle.lookback.specs.Walk.{count_from, to_list}
-use Rattle.lookback.proofs.WalkLaws.{count_step, count_end, count_length}
-use mathlib.Core.Option.{Option}
-use Rattle.row.specs.Row.{row_held}
-use Rattle.list.specs.Rows.{row_in, found_count, count_says}
-use Rattle.row.specs.declared.Row.{Row}
+use Prim.Native.Nat.{◌+◌, ◌-◌, ◌≤◌}
+use mathlib.Core.Path.{◌≡◌}
+use lib.ListN.{length}
+use Rattle.lookback.specs.Walk.{count_from}
+use Rattle.list.specs.Rows.{row_in}
 use Rattle.list.specs.declared.rows.Count.TheVariants as count
-use Rattle.list.proofs.AnswerLaws.{count_bad, count_right, count_one, found_le, row_next}
-use Rattle.broadcast.proofs.IssueLaws.{issues_long}
 use Rattle.list.proofs.rows.row_count.Given as goal
 
 abbrev pub invariant-loop-i : goal.invariant-loop-i

@@ -1,4 +1,3 @@
-use borrow.Author.Rules.{rules}
 use Rattle.log.specs.Epochs.{epoch_bit}
 use Rattle.log.proofs.epochs.epoch_bit.Goals as goal
 

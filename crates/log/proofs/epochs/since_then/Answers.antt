@@ -1,4 +1,3 @@
-use borrow.Author.Rules.{rules}
 use Rattle.log.specs.Epochs.{since_then}
 use Rattle.log.proofs.epochs.since_then.Goals as goal
 

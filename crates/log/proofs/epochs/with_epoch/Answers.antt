@@ -1,4 +1,3 @@
-use borrow.Author.Rules.{rules}
 use Rattle.log.specs.Epochs.{with_epoch}
 use Rattle.log.proofs.epochs.with_epoch.Goals as goal
 

@@ -18,10 +18,10 @@ pub returns-in-Found : goal.returns-in-Found
 returns-in-Found c =
     let a = c.args in
     table_row_found a.table.now a.tally.now a.prn a.issues.now a.slot a.row.now c.if-tally-ne-TALLY_SIZE.false c.if-row-ne-ROW_SIZE.false _ _
-    (sym c.row_of_slot-a.ensures ∙ ap row_says c.a-1.given.1) c.put_row.ensures
+    (sym c.row_of_slot-a.ensures ∙ ap row_says c.in-Found.is) c.put_row.ensures
 
 pub returns-in-Refused : goal.returns-in-Refused
 returns-in-Refused c =
     let a = c.args in
     table_row_none a.table.now a.tally.now a.prn a.issues.now a.slot a.row.now c.if-tally-ne-TALLY_SIZE.false c.if-row-ne-ROW_SIZE.false _ _
-    (sym c.row_of_slot-a.ensures ∙ ap row_says c.a-in-Refused-1.given.1) c.count-in-Refused.ensures
+    (sym c.row_of_slot-a.ensures ∙ ap row_says c.in-Refused.is) c.count-in-Refused.ensures

@@ -1,4 +1,3 @@
-use borrow.Author.Rules.{rules}
 use native.Mathlib.Nat.{add-zero}
 use Rattle.bits.proofs.FieldLaws.{field_zero}
 use Rattle.records.proofs.clock.bare_clock.Goals as goal

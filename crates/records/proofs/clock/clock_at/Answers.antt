@@ -1,4 +1,3 @@
-use borrow.Author.Rules.{rules}
 use Rattle.records.proofs.clock.clock_at.Goals as goal
 
 pub returns-then-slotted : goal.returns-then-slotted
