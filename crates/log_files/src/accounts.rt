@@ -1,6 +1,6 @@
 // What became of the pieces of the logs: in all, and PRN by PRN.
 use frame::prn_of;
-use log::epochs::Epochs;
+use ledger_log::epochs::Epochs;
 use table_form::{ROOMS, room_of};
 
 // The account of a PRN: how many pieces were counted and taken, and the epochs of those taken.
@@ -30,7 +30,7 @@ fn fresh(prn: u8) -> Account {
         prn,
         all: 0,
         taken: 0,
-        epochs: log::epochs::no_epochs(),
+        epochs: ledger_log::epochs::no_epochs(),
     }
 }
 
@@ -79,7 +79,7 @@ fn taken_with(taken: u64, number: u8) -> u64 {
 // An account with one piece more.
 fn with_own(a: Account, piece: &[u8], number: u8) -> Account {
     let e = a.epochs;
-    let epochs = log::epochs::after(e, piece, number == 0);
+    let epochs = ledger_log::epochs::after(e, piece, number == 0);
     Account {
         prn: a.prn,
         all: one_more(a.all),

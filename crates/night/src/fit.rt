@@ -4,7 +4,7 @@ ghost use Rattle.io.specs.Counts.{IsPrefixLen};
 
 use crate::options::{NONE, Options};
 use console::put::{cursor_in, put_bytes, put_text};
-use log::epochs::Epochs;
+use ledger_log::epochs::Epochs;
 use row::{RowAnswer, slot_row};
 use slots::Slot;
 

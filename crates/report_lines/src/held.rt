@@ -3,7 +3,7 @@ ghost use Rattle.io.specs.Counts.{IsPrefixLen};
 
 use crate::counts::put_count;
 use console::put::{cursor_in, put_bytes, put_text};
-use log::epochs::Epochs;
+use ledger_log::epochs::Epochs;
 
 // Bits of satellites, by how many are set and how many of them are reserved.
 fn assigned_of(set: u16, reserved: u16) -> u64 {

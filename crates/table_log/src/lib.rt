@@ -5,7 +5,7 @@ ghost use Rattle.std.specs.Prelude.{◌≡◌, ◌&&◌, ◌||◌, ◌≤◌, lt
 ghost use Rattle.bits.specs.Pick.{pick};
 ghost use Rattle.pieces.specs.Pieces.{piece_length};
 ghost use Rattle.verdict.specs.Verdict.{says};
-ghost use Rattle.log.specs.Next.{piece_of};
+ghost use Rattle.ledger_log.specs.Next.{piece_of};
 ghost use Rattle.table.specs.Calls.{taking_says, taking_bytes};
 
 use pieces::piece_length;

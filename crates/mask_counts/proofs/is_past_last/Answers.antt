@@ -1,6 +1,6 @@
 use borrow.Author.Tests.{le-ltb}
 use native.Mathlib.Omega.{arith}
-use Prim.Native.Nat.{ℕ, ◌+◌, ◌*◌, ◌-◌}
+use Prim.Native.Nat.{ℕ, ◌+◌, ◌*◌}
 use mathlib.Core.Path.{◌≡◌, sym, ap}
 use lib.Dec.{ltb}
 use Rattle.slots.specs.Slots.{set_count}

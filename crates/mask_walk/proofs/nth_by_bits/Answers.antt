@@ -1,5 +1,5 @@
 use native.Mathlib.Omega.{arith}
-use Prim.Native.Nat.{ℕ, ◌+◌, ◌-◌, ◌<◌}
+use Prim.Native.Nat.{ℕ, ◌+◌, ◌<◌}
 use mathlib.Core.Path.{sym, ap, ◌∙◌, refl}
 use lib.ListN.{drop, length}
 use Rattle.slots.specs.Slots.{nth_from}

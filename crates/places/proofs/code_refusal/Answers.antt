@@ -1,4 +1,3 @@
-use borrow.Author.Rules.{rules}
 use mathlib.Core.Path.{sym, ◌∙◌}
 use Rattle.held_mask.specs.Mask.{mask_at}
 use Rattle.places.proofs.KeepLaws.{code_other, code_past, code_good}

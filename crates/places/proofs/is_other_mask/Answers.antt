@@ -1,4 +1,3 @@
-use borrow.Author.Rules.{rules}
 use Rattle.places.proofs.is_other_mask.Goals as goal
 
 pub returns : goal.returns

@@ -1,4 +1,3 @@
-use borrow.Author.Rules.{rules}
 use borrow.Author.Tests.{eq-eqb, ne_eqb}
 use Rattle.places.specs.Keeps.{place_says}
 use Rattle.places.proofs.place_verdict.Goals as goal

@@ -10,7 +10,9 @@ use Rattle.replaying.proofs.replay.Goals as goal
 
 pub returns-then-why-ne0 : goal.returns-then-why-ne0
 returns-then-why-ne0 c =
-    let a = c.args in replay_no number_in a.ledger.now a.prn a.log.now a.verdicts.now _ c.replay_refusal-why.ensures c.if-why-ne0.true
+    let a = c.args in
+    let p = replay_no number_in a.ledger.now a.prn a.log.now a.verdicts.now _ c.replay_refusal-why.ensures c.if-why-ne0.true in
+    record { answer = p.0; bytes = p.1.0; answers = p.1.1 }
 
 pub take_all-requires : goal.take_all-requires
 take_all-requires c = refusal_fits _ _ _ _ (sym c.replay_refusal-why.ensures ∙ c.if-why-ne0.false)
@@ -20,6 +22,5 @@ returns c =
     let a = c.args in
     let t = c.take_all.ensures in
     let f = c.make_fresh.ensures in
-    replay_yes number_in a.ledger.now a.prn a.log.now a.verdicts.now _ _ (sym c.replay_refusal-why.ensures ∙ c.if-why-ne0.false)
-    (t.0 ∙ ap (λ (s : List ℕ). run_bytes s (frames_of a.log.now)) f)
-    (t.1 ∙ ap (λ (s : List ℕ). verdicts_of number_in s a.log.now) f)
+    let p = replay_yes number_in a.ledger.now a.prn a.log.now a.verdicts.now _ _ (sym c.replay_refusal-why.ensures ∙ c.if-why-ne0.false) (t.bytes ∙ ap (λ (s : List ℕ). run_bytes s (frames_of a.log.now)) f) (t.answers ∙ ap (λ (s : List ℕ). verdicts_of number_in s a.log.now) f) in
+    record { answer = p.0; bytes = p.1.0; answers = p.1.1 }

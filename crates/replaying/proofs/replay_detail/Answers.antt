@@ -10,7 +10,9 @@ use Rattle.replaying.proofs.replay_detail.Goals as goal
 
 pub returns-then-why-ne0 : goal.returns-then-why-ne0
 returns-then-why-ne0 c =
-    let a = c.args in replay_no detail_in a.ledger.now a.prn a.log.now a.details.now _ c.replay_refusal-why.ensures c.if-why-ne0.true
+    let a = c.args in
+    let p = replay_no detail_in a.ledger.now a.prn a.log.now a.details.now _ c.replay_refusal-why.ensures c.if-why-ne0.true in
+    record { answer = p.0; bytes = p.1.0; answers = p.1.1 }
 
 pub take_all_detail-requires : goal.take_all_detail-requires
 take_all_detail-requires c = refusal_fits _ _ _ _ (sym c.replay_refusal-why.ensures ∙ c.if-why-ne0.false)
@@ -20,6 +22,5 @@ returns c =
     let a = c.args in
     let t = c.take_all_detail.ensures in
     let f = c.make_fresh.ensures in
-    replay_yes detail_in a.ledger.now a.prn a.log.now a.details.now _ _ (sym c.replay_refusal-why.ensures ∙ c.if-why-ne0.false)
-    (t.0 ∙ ap (λ (s : List ℕ). run_bytes s (frames_of a.log.now)) f)
-    (t.1 ∙ ap (λ (s : List ℕ). verdicts_of detail_in s a.log.now) f)
+    let p = replay_yes detail_in a.ledger.now a.prn a.log.now a.details.now _ _ (sym c.replay_refusal-why.ensures ∙ c.if-why-ne0.false) (t.bytes ∙ ap (λ (s : List ℕ). run_bytes s (frames_of a.log.now)) f) (t.answers ∙ ap (λ (s : List ℕ). verdicts_of detail_in s a.log.now) f) in
+    record { answer = p.0; bytes = p.1.0; answers = p.1.1 }

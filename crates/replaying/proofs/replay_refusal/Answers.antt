@@ -1,6 +1,5 @@
 use borrow.Author.Rules.{rules}
 use mathlib.Core.Path.{sym, ◌∙◌}
-use borrow.Author.Tests.{not-true, not-false}
 use Rattle.ledger_calls.proofs.ReplayLaws.{refusal_ledger, refusal_room, refusal_prn, refusal_none}
 use Rattle.replaying.proofs.replay_refusal.Goals as goal
 
@@ -13,8 +12,8 @@ returns-then-verdicts-frame_count c =
 
 pub returns-then-not-is_prn : goal.returns-then-not-is_prn
 returns-then-not-is_prn c =
-    let a = c.args in refusal_prn a.ledger a.prn a.log a.verdicts c.if-ledger-ne-LEDGER_SIZE.false (c.if-verdicts-frame_count.false ∙ c.frame_count.ensures) (sym c.is_prn.ensures ∙ not-true _ c.if-not-is_prn.true)
+    let a = c.args in refusal_prn a.ledger a.prn a.log a.verdicts c.if-ledger-ne-LEDGER_SIZE.false (c.if-verdicts-frame_count.false ∙ c.frame_count.ensures) (sym c.is_prn.ensures ∙ c.if-not-is_prn.true)
 
 pub returns : goal.returns
 returns c =
-    let a = c.args in refusal_none a.ledger a.prn a.log a.verdicts c.if-ledger-ne-LEDGER_SIZE.false (c.if-verdicts-frame_count.false ∙ c.frame_count.ensures) (sym c.is_prn.ensures ∙ not-false _ c.if-not-is_prn.false)
+    let a = c.args in refusal_none a.ledger a.prn a.log a.verdicts c.if-ledger-ne-LEDGER_SIZE.false (c.if-verdicts-frame_count.false ∙ c.frame_count.ensures) (sym c.is_prn.ensures ∙ c.if-not-is_prn.false)

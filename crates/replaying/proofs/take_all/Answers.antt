@@ -18,10 +18,11 @@ loop-i-preserved c =
     let l = c.loop-i in
     let a = c.args in
     let n = c.take_nth in
-    taking_turn number_in a.t.now a.log.now a.verdicts.now l.t l.verdicts _ l.i c.number_of-n.result l.invariant (omega arith) n.auto.0 n.ensures.1 (c.number_of-n.ensures ∙ ap number_in n.ensures.0)
+    taking_turn number_in a.t.now a.log.now a.verdicts.now l.t l.verdicts _ l.i c.number_of-n.result l.invariant (omega arith) n.auto.t n.ensures.bytes (c.number_of-n.ensures ∙ ap number_in n.ensures.verdict)
 
 pub returns : goal.returns
 returns c =
     let l = c.loop-i in
     let a = c.args in
-    taking_end number_in a.t.now a.log.now a.verdicts.now l.t l.verdicts l.i l.invariant (omega arith)
+    let p = taking_end number_in a.t.now a.log.now a.verdicts.now l.t l.verdicts l.i l.invariant (omega arith) in
+    record { bytes = p.0; answers = p.1 }

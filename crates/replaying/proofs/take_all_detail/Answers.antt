@@ -18,10 +18,11 @@ loop-i-preserved c =
     let l = c.loop-i in
     let a = c.args in
     let n = c.take_nth in
-    taking_turn detail_in a.t.now a.log.now a.details.now l.t l.details _ l.i c.detail-n.result l.invariant (omega arith) n.auto.0 n.ensures.1 (c.detail-n.ensures ∙ ap detail_in n.ensures.0)
+    taking_turn detail_in a.t.now a.log.now a.details.now l.t l.details _ l.i c.detail-n.result l.invariant (omega arith) n.auto.t n.ensures.bytes (c.detail-n.ensures ∙ ap detail_in n.ensures.verdict)
 
 pub returns : goal.returns
 returns c =
     let l = c.loop-i in
     let a = c.args in
-    taking_end detail_in a.t.now a.log.now a.details.now l.t l.details l.i l.invariant (omega arith)
+    let p = taking_end detail_in a.t.now a.log.now a.details.now l.t l.details l.i l.invariant (omega arith) in
+    record { bytes = p.0; answers = p.1 }

@@ -24,10 +24,10 @@ loop-i-preserved c =
     let p = c.put_answer-n in
     let e = c.slot_row-a.ensures ∙ ap (answer_of 0) (sym (row_next a.ledger.now a.issues.now l.i)) in (
       omega arith,
-      omega (arith, p.ensures.0, found_le c.slot_row-a.result),
+      omega (arith, p.ensures.count, found_le c.slot_row-a.result),
       l.invariant.2,
-      p.auto.0 ∙ l.invariant.3,
-      rows_turn (row_in a.ledger.now a.issues.now) l.i l.n p.result l.rows _ _ (omega arith) e p.ensures.0 p.ensures.1 ∙ l.invariant.4,
+      p.auto.rows ∙ l.invariant.3,
+      rows_turn (row_in a.ledger.now a.issues.now) l.i l.n p.result l.rows _ _ (omega arith) e p.ensures.count p.ensures.bytes ∙ l.invariant.4,
     )
 
 pub returns : goal.returns

@@ -21,7 +21,7 @@ loop-left-preserved c =
     let a = c.args in
     let p = c.put_row in
     let e = p.ensures ∙ ap (λ (r : Row). store_at l.rows l.k (row_bytes r)) c.row_said-r.ensures in
-    (omega arith, omega arith, omega arith, p.auto.0 ∙ l.invariant.3, said_turn l.rows a.sheet.now l.k l.left l.at _ (omega arith) e ∙ l.invariant.4)
+    (omega arith, omega arith, omega arith, p.auto.room ∙ l.invariant.3, said_turn l.rows a.sheet.now l.k l.left l.at _ (omega arith) e ∙ l.invariant.4)
 
 pub returns : goal.returns
 returns c =

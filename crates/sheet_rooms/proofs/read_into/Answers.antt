@@ -13,37 +13,37 @@ use Rattle.row_calls.specs.Rows.{rows_bytes}
 use Rattle.sheet_calls.proofs.SheetLaws.{answer_near, read_header_size, read_rows_size, read_wrong, read_right}
 use Rattle.sheet_rooms.proofs.read_into.Goals as goal
 
--- what the reader says of a sheet that is wrong
-wrong : (c : tie.After-known-told) → read_says (Wrong c.before.a.given.0.0) ≡ read_answer most_sheet_rows true c.before.before.before.before.before.before.before.before.before.args.sheet.now
-wrong c = sym (ap read_says c.before.a.given.1) ∙ c.before.before.before.read-sheet.ensures
-
-near : (c : tie.After-known-told) → c.before.a.given.0.0 ≤ 8 + 24 * most_sheet_rows + 3
-near c = answer_near most_sheet_rows true c.before.before.before.before.before.before.before.before.before.args.sheet.now c.before.a.given.0.0 (wrong c)
-
 pub returns-then-header-ne-SHEET_HEADER_SIZE : goal.returns-then-header-ne-SHEET_HEADER_SIZE
 returns-then-header-ne-SHEET_HEADER_SIZE c =
-    let a = c.args in read_header_size a.sheet.now a.header.now a.rows.now c.if-header-ne-SHEET_HEADER_SIZE.true
+    let a = c.args in
+    let p = read_header_size a.sheet.now a.header.now a.rows.now c.if-header-ne-SHEET_HEADER_SIZE.true in
+    record { answer = p.0; header = p.1.0; rows = p.1.1 }
 
 pub returns-then-rows-ne-ROWS_SIZE : goal.returns-then-rows-ne-ROWS_SIZE
 returns-then-rows-ne-ROWS_SIZE c =
-    let a = c.args in read_rows_size a.sheet.now a.header.now a.rows.now c.if-header-ne-SHEET_HEADER_SIZE.false c.if-rows-ne-ROWS_SIZE.true
+    let a = c.args in
+    let p = read_rows_size a.sheet.now a.header.now a.rows.now c.if-header-ne-SHEET_HEADER_SIZE.false c.if-rows-ne-ROWS_SIZE.true in
+    record { answer = p.0; header = p.1.0; rows = p.1.1 }
 
 pub overflow_mul-result : goal.overflow_mul-result
-overflow_mul-result c = omega (arith, near c)
+overflow_mul-result c =
+    let wrong : read_says (Wrong c.in-Wrong.at) ≡ read_answer most_sheet_rows true c.args.sheet.now = sym (ap read_says c.in-Wrong.is) ∙ c.read_sheet-a.ensures in
+    omega (arith, answer_near most_sheet_rows true c.args.sheet.now c.in-Wrong.at wrong)
 
 pub overflow_add-result : goal.overflow_add-result
-overflow_add-result c = omega (arith, near c)
+overflow_add-result c =
+    let wrong : read_says (Wrong c.in-Wrong.at) ≡ read_answer most_sheet_rows true c.args.sheet.now = sym (ap read_says c.in-Wrong.is) ∙ c.read_sheet-a.ensures in
+    omega (arith, answer_near most_sheet_rows true c.args.sheet.now c.in-Wrong.at wrong)
 
 pub returns-in-Wrong : goal.returns-in-Wrong
 returns-in-Wrong c =
+    let wrong : read_says (Wrong c.in-Wrong.at) ≡ read_answer most_sheet_rows true c.args.sheet.now = sym (ap read_says c.in-Wrong.is) ∙ c.read_sheet-a.ensures in
     let a = c.args in
-    read_wrong a.sheet.now a.header.now a.rows.now c.if-header-ne-SHEET_HEADER_SIZE.false c.if-rows-ne-ROWS_SIZE.false c.a-1.given.0.0 (wrong c)
+    let p = read_wrong a.sheet.now a.header.now a.rows.now c.if-header-ne-SHEET_HEADER_SIZE.false c.if-rows-ne-ROWS_SIZE.false c.in-Wrong.at wrong in
+    record { answer = p.0; header = p.1.0; rows = p.1.1 }
 
 pub returns-in-Read : goal.returns-in-Read
 returns-in-Read c =
     let a = c.args in
-    let h = c.a-in-Read-1.given in
-    read_right a.sheet.now a.header.now a.rows.now c.if-header-ne-SHEET_HEADER_SIZE.false c.if-rows-ne-ROWS_SIZE.false h.0.0 _ _
-    (sym (ap read_says h.1) ∙ c.read_sheet-a.ensures)
-    c.put_header.ensures
-    (c.put_rows.ensures ∙ ap (λ (x : List ℕ). store_at x 0 (rows_bytes (rows_said_from a.sheet.now h.0.0.rows 8))) c.clear.ensures)
+    let p = read_right a.sheet.now a.header.now a.rows.now c.if-header-ne-SHEET_HEADER_SIZE.false c.if-rows-ne-ROWS_SIZE.false c.in-Read.h _ _ (sym (ap read_says c.in-Read.is) ∙ c.read_sheet-a.ensures) c.put_header.ensures (c.put_rows.ensures ∙ ap (λ (x : List ℕ). store_at x 0 (rows_bytes (rows_said_from a.sheet.now c.in-Read.h.rows 8))) c.clear.ensures) in
+    record { answer = p.0; header = p.1.0; rows = p.1.1 }

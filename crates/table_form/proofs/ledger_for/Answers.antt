@@ -14,6 +14,11 @@ returns-then-not-is_table c = rw (sym c.is_table.ensures ∙ c.if-not-is_table.t
 pub overflow_mul-a : goal.overflow_mul-a
 overflow_mul-a c = omega (arith, of_le c.args.t.now c.args.prn, c.room_of-a.ensures)
 
+pub slice_bounds-result-end-then-a-eq-TABLE_SIZE : goal.slice_bounds-result-end-then-a-eq-TABLE_SIZE
+slice_bounds-result-end-then-a-eq-TABLE_SIZE c =
+    let long = table_long _ (sym c.is_table.ensures ∙ c.if-not-is_table.false) in
+    omega (arith, long, of_le c.args.t.now c.args.prn, c.room_of-a.ensures)
+
 pub slice_bounds-result-end-2 : goal.slice_bounds-result-end-2
 slice_bounds-result-end-2 c =
     let long = table_long _ (sym c.is_table.ensures ∙ c.if-not-is_table.false) in

@@ -20,3 +20,9 @@ returns c =
     let l = c.loop-i in
     let e : l.i ≡ 255 = omega arith in
     rw e at l.invariant.2
+
+pub loop-i-preserved : goal.loop-i-preserved
+unfolding puts_at
+loop-i-preserved c =
+    let l = c.loop-i in
+    (omega arith, c.put.auto.room ∙ l.invariant.1, rw (rows_step, ← l.invariant.2, one-mul l.i, ← c.mask_bit-b.ensures) c.put.ensures)

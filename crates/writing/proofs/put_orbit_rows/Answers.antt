@@ -19,3 +19,12 @@ pub returns : goal.returns
 returns c =
     let e : c.loop-i.i ≡ c.args.n = omega arith in
     rw e at c.loop-i.invariant.3
+
+pub loop-i-preserved : goal.loop-i-preserved
+loop-i-preserved c =
+    let l = c.loop-i in (
+      omega arith,
+      l.invariant.1,
+      c.puts.auto.room ∙ l.invariant.2,
+      rw (rows_step, ← l.invariant.3) (c.puts.ensures ∙ rw (l.invariant.1, c.orbit_vals.ensures)),
+    )

@@ -1,5 +1,5 @@
-use Rattle.log.specs.Epochs.{with_epoch}
-use Rattle.log.proofs.epochs.with_epoch.Goals as goal
+use Rattle.ledger_log.specs.Epochs.{with_epoch}
+use Rattle.ledger_log.proofs.epochs.with_epoch.Goals as goal
 
 pub returns-then-e : goal.returns-then-e
 unfolding with_epoch

@@ -3,7 +3,7 @@ ghost use Rattle.std.specs.Prelude.{◌≡◌};
 ghost use Rattle.std.proofs.Math.Option.{none};
 ghost use Rattle.bits.specs.Pick.{pick};
 ghost use Rattle.frame.specs.Frame.{contents_of};
-ghost use Rattle.log.specs.Epochs.{epoch_of, no_epochs, lapse, longer, one_more, since_then, with_epoch, epochs_after, epoch_bit};
+ghost use Rattle.ledger_log.specs.Epochs.{epoch_of, no_epochs, lapse, longer, one_more, since_then, with_epoch, epochs_after, epoch_bit};
 
 // The epochs so far. Before the first, has is false and since counts all frames.
 #[derive(Clone, Copy)]

@@ -16,7 +16,7 @@ use Rattle.layout.specs.Layout.{layout_of}
 use Rattle.layout.specs.declared.Layout.{Layout}
 use Rattle.contents.specs.Parts.{mask_in, clocks_in, orbits_in, biases_in, codes_in, no_clocks, no_orbits, contents_at}
 use Rattle.frame.specs.Frame.{contents_of}
-use Rattle.log.specs.Epochs.{epoch_of, epoch_bit}
+use Rattle.ledger_log.specs.Epochs.{epoch_of, epoch_bit}
 
 -- the epoch at a bit, none at bit 0
 abbrev pub epoch_at : List ℕ → ℕ → Option ℕ

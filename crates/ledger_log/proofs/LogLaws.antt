@@ -10,7 +10,7 @@ use Rattle.pieces.proofs.CutLaws.{cut_step}
 use Rattle.pieces.proofs.ChunkLaws.{as_chunks}
 use Rattle.in_force.specs.Bytes.{fresh, take_bytes, run_bytes, frames_to, frames_of, Holds}
 use Rattle.in_force.proofs.BackLaws.{holds_run}
-use Rattle.log.specs.Next.{piece_of, taken_all, TakenPieces}
+use Rattle.ledger_log.specs.Next.{piece_of, taken_all, TakenPieces}
 
 -- one frame more at the old end was taken first
 run_first : (t : List ℕ) (h : List (List ℕ)) (f : List ℕ) → run_bytes t (h ++ (f ∷ [])) ≡ run_bytes (take_bytes t f) h

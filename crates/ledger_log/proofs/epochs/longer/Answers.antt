@@ -1,4 +1,4 @@
-use Rattle.log.proofs.epochs.longer.Goals as goal
+use Rattle.ledger_log.proofs.epochs.longer.Goals as goal
 
 pub returns-then-gap-d : goal.returns-then-gap-d
 returns-then-gap-d c = rw c.if-gap-d.true

@@ -1,5 +1,5 @@
-use Rattle.log.specs.Epochs.{epoch_bit}
-use Rattle.log.proofs.epochs.epoch_bit.Goals as goal
+use Rattle.ledger_log.specs.Epochs.{epoch_bit}
+use Rattle.ledger_log.proofs.epochs.epoch_bit.Goals as goal
 
 pub returns-then-kind : goal.returns-then-kind
 unfolding epoch_bit

@@ -4,7 +4,7 @@ use Rattle.std.proofs.Math.Option.{Option, none, some}
 use Rattle.bits.specs.Pick.{pick}
 use Rattle.bits.specs.Bits.{field_at}
 use Rattle.contents.specs.declared.parts.Contents.{Contents}
-use Rattle.log.specs.declared.epochs.Epochs.{Epochs}
+use Rattle.ledger_log.specs.declared.epochs.Epochs.{Epochs}
 
 -- 01, Message fields, and 02, CR 2: the epoch of a message: that of types 1, 3 and 5; of two parts the clock part's; none in type 63, and in 6 and 7 with no part
 unfoldable pub epoch_of : Contents → Option ℕ

@@ -1,8 +1,8 @@
 use borrow.Author.Tests.{ne_eqb}
 use mathlib.Core.Path.{◌≡◌, sym, ap, ◌∙◌}
-use Rattle.log.specs.Epochs.{with_epoch, epochs_after, epoch_bit}
-use Rattle.log.proofs.EpochLaws.{epoch_there}
-use Rattle.log.proofs.epochs.after.Goals as goal
+use Rattle.ledger_log.specs.Epochs.{with_epoch, epochs_after, epoch_bit}
+use Rattle.ledger_log.proofs.EpochLaws.{epoch_there}
+use Rattle.ledger_log.proofs.epochs.after.Goals as goal
 
 pub returns-then-not-taken : goal.returns-then-not-taken
 unfolding epochs_after

@@ -1,5 +1,5 @@
 use borrow.Author.Tests.{lt-ltb, le-ltb}
-use Rattle.log.proofs.epochs.one_more.Goals as goal
+use Rattle.ledger_log.proofs.epochs.one_more.Goals as goal
 
 pub returns-then-n-lt18446744073709551615 : goal.returns-then-n-lt18446744073709551615
 returns-then-n-lt18446744073709551615 c = rw (lt-ltb _ _ c.if-n-lt18446744073709551615.true)

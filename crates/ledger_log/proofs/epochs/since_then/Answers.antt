@@ -1,0 +1,6 @@
+use Rattle.ledger_log.specs.Epochs.{since_then}
+use Rattle.ledger_log.proofs.epochs.since_then.Goals as goal
+
+pub returns : goal.returns
+unfolding since_then
+returns c = rw c.one_more.ensures
