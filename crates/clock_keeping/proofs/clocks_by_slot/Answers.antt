@@ -1,14 +1,12 @@
 use borrow.Author.Rules.{rules}
 use native.Mathlib.Omega.{arith}
-use Prim.Native.Nat.{◌-◌, ◌≤◌}
 use mathlib.Core.Bool.{false}
-use mathlib.Core.Path.{◌≡◌, sym, ◌∙◌, refl}
-use lib.ListN.{length, drop}
+use mathlib.Core.Path.{sym, ◌∙◌, refl}
 use Rattle.records.specs.Clock.{blank_clock}
 use Rattle.records.specs.declared.clock.Clock.{Clock}
-use Rattle.held_clocks.specs.Clocks.{replace_clock, replace_clocks}
+use Rattle.held_clocks.specs.Clocks.{replace_clock}
 use Rattle.held_clocks.proofs.ClockLaws.{clock_named}
-use Rattle.places.specs.Keeps.{held_clock, by_slot, clocks_of}
+use Rattle.places.specs.Keeps.{held_clock, clocks_of}
 use Rattle.places.proofs.KeepLaws.{length_mapped, slot_step, slot_end}
 use Rattle.clock_keeping.proofs.clocks_by_slot.Goals as goal
 

@@ -1,15 +1,10 @@
-use borrow.Author.Rules.{rules}
-use native.Mathlib.Omega.{arith}
 use Prim.Native.Nat.{◌-◌, ◌≤◌}
 use mathlib.Core.Bool.{false}
-use mathlib.Core.Path.{◌≡◌, sym, ◌∙◌, refl}
+use mathlib.Core.Path.{◌≡◌}
 use lib.ListN.{length, drop}
-use Rattle.records.specs.Clock.{blank_clock}
 use Rattle.records.specs.declared.clock.Clock.{Clock}
-use Rattle.held_clocks.specs.Clocks.{replace_clock, replace_clocks}
-use Rattle.held_clocks.proofs.ClockLaws.{clock_named}
-use Rattle.places.specs.Keeps.{held_clock, by_slot, clocks_of}
-use Rattle.places.proofs.KeepLaws.{length_mapped, slot_step, slot_end}
+use Rattle.held_clocks.specs.Clocks.{replace_clocks}
+use Rattle.places.specs.Keeps.{held_clock, by_slot}
 use Rattle.clock_keeping.proofs.clocks_by_slot.Given as goal
 
 abbrev pub invariant-loop-j : goal.invariant-loop-j

@@ -1,4 +1,3 @@
-use borrow.Author.Rules.{rules}
 use mathlib.Core.Path.{sym, ◌∙◌}
 use Rattle.held_clocks.specs.Clocks.{replace_clock}
 use Rattle.held_mask.specs.Mask.{mask_at}

@@ -1,4 +1,3 @@
-use borrow.Author.Rules.{rules}
 use mathlib.Core.Path.{sym, ◌∙◌}
 use Rattle.places.specs.Keeps.{held_code}
 use Rattle.in_force.proofs.KeptLaws.{kept_code_yes, kept_code_no}

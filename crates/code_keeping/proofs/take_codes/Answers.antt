@@ -1,9 +1,9 @@
 use borrow.Author.Rules.{rules}
 use native.Mathlib.Omega.{arith}
 use native.Mathlib.Nat.{add-zero}
-use Prim.Native.Nat.{ℕ, ◌+◌, ◌-◌, ◌≤◌}
+use Prim.Native.Nat.{ℕ, ◌+◌, ◌≤◌}
 use mathlib.Core.Path.{◌≡◌, sym, ap, ◌∙◌, refl}
-use lib.ListN.{length, drop}
+use lib.ListN.{drop}
 use Rattle.slots.specs.Slots.{nth_from, nth_set}
 use Rattle.mask_bits.specs.Bits.{bits_at}
 use Rattle.mask_bits.proofs.BitLaws.{length_bits}

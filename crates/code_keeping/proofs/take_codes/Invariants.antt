@@ -1,19 +1,10 @@
-use borrow.Author.Rules.{rules}
-use native.Mathlib.Omega.{arith}
-use native.Mathlib.Nat.{add-zero}
 use Prim.Native.Nat.{ℕ, ◌+◌, ◌-◌, ◌≤◌}
-use mathlib.Core.Path.{◌≡◌, sym, ap, ◌∙◌, refl}
+use mathlib.Core.Path.{◌≡◌}
 use lib.ListN.{length, drop}
 use Rattle.slots.specs.Slots.{nth_from, nth_set}
 use Rattle.mask_bits.specs.Bits.{bits_at}
-use Rattle.mask_bits.proofs.BitLaws.{length_bits}
-use Rattle.mask_bits.proofs.PlaceLaws.{walk_on}
 use Rattle.places.specs.Keeps.{held_code, by_place}
-use Rattle.places.proofs.KeepLaws.{place_step, place_end, place_filler}
-use Rattle.in_force.specs.Bytes.{kept_code, kept_codes}
-use Rattle.in_force.proofs.KeptLaws.{kept_code_none}
-use Rattle.in_force.proofs.ViewLaws.{code_bits}
-use Rattle.keeping.proofs.PlacedLaws.{at_place, codes_asked, goes_on}
+use Rattle.in_force.specs.Bytes.{kept_codes}
 use Rattle.code_keeping.proofs.take_codes.Given as goal
 
 abbrev pub invariant-loop-j : goal.invariant-loop-j

@@ -1,4 +1,3 @@
-use borrow.Author.Rules.{rules}
 use mathlib.Core.Path.{sym, ◌∙◌}
 use Rattle.in_force.proofs.KeptLaws.{kept_orbit_came, kept_orbit_stayed}
 use Rattle.keeping.proofs.keep_orbit.Goals as goal

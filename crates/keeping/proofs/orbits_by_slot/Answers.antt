@@ -1,13 +1,11 @@
 use borrow.Author.Rules.{rules}
 use native.Mathlib.Omega.{arith}
-use Prim.Native.Nat.{◌-◌, ◌≤◌}
-use mathlib.Core.Path.{◌≡◌, sym, ◌∙◌, refl}
-use lib.ListN.{length, drop}
+use mathlib.Core.Path.{sym, ◌∙◌, refl}
 use Rattle.records.specs.Orbit.{blank_orbit}
 use Rattle.records.specs.declared.orbit.Orbit.{Orbit}
-use Rattle.places.specs.Keeps.{held_orbit, by_slot, orbits_of}
+use Rattle.places.specs.Keeps.{held_orbit, orbits_of}
 use Rattle.places.proofs.KeepLaws.{length_mapped, slot_step, slot_end}
-use Rattle.in_force.specs.Bytes.{kept_orbit, kept_orbits}
+use Rattle.in_force.specs.Bytes.{kept_orbit}
 use Rattle.in_force.proofs.KeptLaws.{kept_orbit_named}
 use Rattle.keeping.proofs.orbits_by_slot.Goals as goal
 

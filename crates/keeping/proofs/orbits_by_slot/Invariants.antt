@@ -1,14 +1,9 @@
-use borrow.Author.Rules.{rules}
-use native.Mathlib.Omega.{arith}
 use Prim.Native.Nat.{◌-◌, ◌≤◌}
-use mathlib.Core.Path.{◌≡◌, sym, ◌∙◌, refl}
+use mathlib.Core.Path.{◌≡◌}
 use lib.ListN.{length, drop}
-use Rattle.records.specs.Orbit.{blank_orbit}
 use Rattle.records.specs.declared.orbit.Orbit.{Orbit}
-use Rattle.places.specs.Keeps.{held_orbit, by_slot, orbits_of}
-use Rattle.places.proofs.KeepLaws.{length_mapped, slot_step, slot_end}
-use Rattle.in_force.specs.Bytes.{kept_orbit, kept_orbits}
-use Rattle.in_force.proofs.KeptLaws.{kept_orbit_named}
+use Rattle.places.specs.Keeps.{held_orbit, by_slot}
+use Rattle.in_force.specs.Bytes.{kept_orbits}
 use Rattle.keeping.proofs.orbits_by_slot.Given as goal
 
 abbrev pub invariant-loop-j : goal.invariant-loop-j

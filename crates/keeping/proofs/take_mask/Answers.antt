@@ -1,4 +1,3 @@
-use borrow.Author.Rules.{rules}
 use mathlib.Core.Path.{◌∙◌}
 use Rattle.in_force.specs.Bytes.{mask_bytes}
 use Rattle.keeping.proofs.take_mask.Goals as goal

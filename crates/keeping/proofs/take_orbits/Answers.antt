@@ -1,4 +1,3 @@
-use borrow.Author.Rules.{rules}
 use mathlib.Core.Path.{sym}
 use Rattle.places.specs.Keeps.{orbits_of}
 use Rattle.places.proofs.KeepLaws.{orbits_none, order_none}

@@ -6,9 +6,9 @@ use Rattle.quieuvodan.proofs.put_reading.Goals as goal
 
 pub returns-then-number_of-ne0 : goal.returns-then-number_of-ne0
 returns-then-number_of-ne0 c =
-    let a = c.args in (refl, put_no (reading_says a.r) a.room.now c.requires (λ z. c.if-number_of-ne0.true (c.number_of.ensures ∙ z)))
+    let a = c.args in record { answer = refl; bytes = put_no (reading_says a.r) a.room.now c.requires (λ z. c.if-number_of-ne0.true (c.number_of.ensures ∙ z)) }
 
 pub returns : goal.returns
 returns c =
     let a = c.args in
-    (refl, put_yes (reading_says a.r) a.room.now c.requires _ (sym c.number_of.ensures ∙ c.if-number_of-ne0.false) c.put_contents.ensures)
+    record { answer = refl; bytes = put_yes (reading_says a.r) a.room.now c.requires _ (sym c.number_of.ensures ∙ c.if-number_of-ne0.false) c.put_contents.ensures }

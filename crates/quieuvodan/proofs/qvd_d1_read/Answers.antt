@@ -5,4 +5,4 @@ use Rattle.verdict.proofs.NumberLaws.{number_back}
 use Rattle.quieuvodan.proofs.qvd_d1_read.Goals as goal
 
 pub returns : goal.returns
-returns c = let r = c.read_subframe.ensures in (c.number_of.ensures ∙ ap number_in r.0 ∙ number_back _, r.1)
+returns c = let r = c.read_subframe.ensures in record { answer = c.number_of.ensures ∙ ap number_in r.verdict ∙ number_back _; bytes = r.bytes }

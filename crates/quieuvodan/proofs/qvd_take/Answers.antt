@@ -5,8 +5,13 @@ use Rattle.ledger_calls.proofs.LedgerLaws.{take_size, take_right}
 use Rattle.quieuvodan.proofs.qvd_take.Goals as goal
 
 pub returns-then-ledger-ne-LEDGER_SIZE : goal.returns-then-ledger-ne-LEDGER_SIZE
-returns-then-ledger-ne-LEDGER_SIZE c = let a = c.args in take_size number_in a.ledger.now a.frame.now c.if-ledger-ne-LEDGER_SIZE.true
+returns-then-ledger-ne-LEDGER_SIZE c =
+    let a = c.args in
+    let p = take_size number_in a.ledger.now a.frame.now c.if-ledger-ne-LEDGER_SIZE.true in
+    record { answer = p.0; bytes = p.1 }
 
 pub returns : goal.returns
 returns c =
-    let a = c.args in take_right number_in a.ledger.now a.frame.now _ _ c.if-ledger-ne-LEDGER_SIZE.false (c.number_of.ensures ∙ ap number_in c.take_in.ensures.0) c.take_in.ensures.1
+    let a = c.args in
+    let p = take_right number_in a.ledger.now a.frame.now _ _ c.if-ledger-ne-LEDGER_SIZE.false (c.number_of.ensures ∙ ap number_in c.take_in.ensures.verdict) c.take_in.ensures.bytes in
+    record { answer = p.0; bytes = p.1 }

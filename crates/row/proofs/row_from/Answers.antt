@@ -1,7 +1,6 @@
 use borrow.Author.Rules.{rules}
 use mir.Syntax.{w16, w32}
 use mir.Val.{to_z, of_z}
-use Prim.Native.Nat.{◌-◌}
 use mathlib.Core.Path.{◌≡◌}
 use Rattle.row.proofs.row_from.Goals as goal
 

@@ -1,10 +1,8 @@
-use borrow.Author.Rules.{rules}
 use native.Mathlib.Omega.{arith}
-use Prim.Native.Nat.{ℕ, ◌-◌, ◌≤◌}
+use Prim.Native.Nat.{ℕ}
 use mathlib.Core.Path.{◌≡◌, sym, ap, ◌∙◌, refl}
 use mathlib.Core.List.{List}
-use lib.ListN.{length}
-use Rattle.in_force.specs.Bytes.{take_bytes, run_bytes, frame_at, frames_to}
+use Rattle.in_force.specs.Bytes.{take_bytes, frame_at}
 use Rattle.in_force.proofs.LogLaws.{run_start, run_step}
 use Rattle.ledger.proofs.replay.take_log.Goals as goal
 

@@ -1,11 +1,7 @@
-use borrow.Author.Rules.{rules}
-use native.Mathlib.Omega.{arith}
-use Prim.Native.Nat.{ℕ, ◌-◌, ◌≤◌}
-use mathlib.Core.Path.{◌≡◌, sym, ap, ◌∙◌, refl}
-use mathlib.Core.List.{List}
+use Prim.Native.Nat.{◌-◌, ◌≤◌}
+use mathlib.Core.Path.{◌≡◌}
 use lib.ListN.{length}
-use Rattle.in_force.specs.Bytes.{take_bytes, run_bytes, frame_at, frames_to}
-use Rattle.in_force.proofs.LogLaws.{run_start, run_step}
+use Rattle.in_force.specs.Bytes.{run_bytes, frames_to}
 use Rattle.ledger.proofs.replay.take_log.Given as goal
 
 abbrev pub invariant-loop-i : goal.invariant-loop-i

@@ -1,7 +1,6 @@
-use borrow.Author.Rules.{rules}
 use native.Mathlib.Omega.{arith}
-use mathlib.Core.Path.{◌≡◌, ap, ◌∙◌}
-use Rattle.in_force.specs.Bytes.{take_says, take_bytes, frame_at}
+use mathlib.Core.Path.{ap, ◌∙◌}
+use Rattle.in_force.specs.Bytes.{take_says, take_bytes}
 use Rattle.in_force.proofs.LogLaws.{start_in, piece_whole, piece_last}
 use Rattle.ledger.proofs.replay.take_nth.Goals.{then-left-lt125, else-left-lt125}
 use Rattle.ledger.proofs.replay.take_nth.Goals as goal

@@ -1,4 +1,3 @@
-use borrow.Author.Rules.{rules}
 use mathlib.Core.Path.{sym, ap, ◌∙◌}
 use Rattle.judge.proofs.JudgeLaws.{parts_refusal_at}
 use Rattle.frame.specs.Frame.{contents_of}

@@ -1,4 +1,3 @@
-use borrow.Author.Rules.{rules}
 use mathlib.Core.Path.{sym, ap, ◌∙◌}
 use Rattle.judge.specs.Judge.{mask_refusal_of}
 use Rattle.judge.proofs.JudgeLaws.{mask_refusal_at}

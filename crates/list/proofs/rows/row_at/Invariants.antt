@@ -3,7 +3,6 @@ use mathlib.Core.Path.{◌≡◌}
 use lib.ListN.{length}
 use Rattle.lookback.specs.Walk.{nth_row_from, nth_of}
 use Rattle.list.specs.Rows.{row_in, list_in}
-use Rattle.row.specs.declared.RowAnswer.TheVariants as answer
 use Rattle.list.proofs.rows.row_at.Given as goal
 
 abbrev pub invariant-loop-i : goal.invariant-loop-i

@@ -3,7 +3,6 @@ use mathlib.Core.Path.{◌≡◌}
 use lib.ListN.{length}
 use Rattle.lookback.specs.Walk.{count_from}
 use Rattle.list.specs.Rows.{row_in}
-use Rattle.list.specs.declared.rows.Count.TheVariants as count
 use Rattle.list.proofs.rows.row_count.Given as goal
 
 abbrev pub invariant-loop-i : goal.invariant-loop-i

@@ -1,4 +1,4 @@
-use Prim.Native.Nat.{ℕ, ◌-◌}
+use Prim.Native.Nat.{ℕ}
 use mathlib.Core.Path.{sym, ap, ◌∙◌}
 use Rattle.row.specs.Row.{row_says}
 use Rattle.row.specs.declared.RowAnswer.TheVariants as answer

@@ -6,7 +6,8 @@ use Rattle.quieuvodan.proofs.sheet.qvd_table_check_sheet.Goals as goal
 pub returns-then-tally-ne-TALLY_SIZE : goal.returns-then-tally-ne-TALLY_SIZE
 returns-then-tally-ne-TALLY_SIZE c =
     let a = c.args in
-    table_check_tally_lem a.table.now a.tally.now a.prn a.issues.now a.sheet.now c.if-tally-ne-TALLY_SIZE.true
+    let p = table_check_tally_lem a.table.now a.tally.now a.prn a.issues.now a.sheet.now c.if-tally-ne-TALLY_SIZE.true in
+    record { answer = p.0; tally = p.1 }
 
 pub checked-requires : goal.checked-requires
 checked-requires c =
@@ -17,5 +18,5 @@ checked-requires c =
 pub returns : goal.returns
 returns c =
     let a = c.args in
-    table_check_right a.table.now a.tally.now a.prn a.issues.now a.sheet.now _ _ _ _ c.if-tally-ne-TALLY_SIZE.false
-    c.check_sheet-a.ensures c.checked.ensures c.checked_number.ensures c.count.ensures
+    let p = table_check_right a.table.now a.tally.now a.prn a.issues.now a.sheet.now _ _ _ _ c.if-tally-ne-TALLY_SIZE.false c.check_sheet-a.ensures c.checked.ensures c.checked_number.ensures c.count.ensures in
+    record { answer = p.0; tally = p.1 }

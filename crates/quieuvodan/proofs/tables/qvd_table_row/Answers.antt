@@ -7,21 +7,23 @@ use Rattle.quieuvodan.proofs.tables.qvd_table_row.Goals as goal
 pub returns-then-tally-ne-TALLY_SIZE : goal.returns-then-tally-ne-TALLY_SIZE
 returns-then-tally-ne-TALLY_SIZE c =
     let a = c.args in
-    table_row_tally_lem a.table.now a.tally.now a.prn a.issues.now a.slot a.row.now c.if-tally-ne-TALLY_SIZE.true
+    let p = table_row_tally_lem a.table.now a.tally.now a.prn a.issues.now a.slot a.row.now c.if-tally-ne-TALLY_SIZE.true in
+    record { answer = p.0; bytes = p.1.0; tally = p.1.1 }
 
 pub returns-then-row-ne-ROW_SIZE : goal.returns-then-row-ne-ROW_SIZE
 returns-then-row-ne-ROW_SIZE c =
     let a = c.args in
-    table_row_room_lem a.table.now a.tally.now a.prn a.issues.now a.slot a.row.now c.if-tally-ne-TALLY_SIZE.false _ c.if-row-ne-ROW_SIZE.true c.count.ensures
+    let p = table_row_room_lem a.table.now a.tally.now a.prn a.issues.now a.slot a.row.now c.if-tally-ne-TALLY_SIZE.false _ c.if-row-ne-ROW_SIZE.true c.count.ensures in
+    record { answer = p.0; bytes = p.1.0; tally = p.1.1 }
 
 pub returns-in-Found : goal.returns-in-Found
 returns-in-Found c =
     let a = c.args in
-    table_row_found a.table.now a.tally.now a.prn a.issues.now a.slot a.row.now c.if-tally-ne-TALLY_SIZE.false c.if-row-ne-ROW_SIZE.false _ _
-    (sym c.row_of_slot-a.ensures ∙ ap row_says c.in-Found.is) c.put_row.ensures
+    let p = table_row_found a.table.now a.tally.now a.prn a.issues.now a.slot a.row.now c.if-tally-ne-TALLY_SIZE.false c.if-row-ne-ROW_SIZE.false _ _ (sym c.row_of_slot-a.ensures ∙ ap row_says c.in-Found.is) c.put_row.ensures in
+    record { answer = p.0; bytes = p.1.0; tally = p.1.1 }
 
 pub returns-in-Refused : goal.returns-in-Refused
 returns-in-Refused c =
     let a = c.args in
-    table_row_none a.table.now a.tally.now a.prn a.issues.now a.slot a.row.now c.if-tally-ne-TALLY_SIZE.false c.if-row-ne-ROW_SIZE.false _ _
-    (sym c.row_of_slot-a.ensures ∙ ap row_says c.in-Refused.is) c.count-in-Refused.ensures
+    let p = table_row_none a.table.now a.tally.now a.prn a.issues.now a.slot a.row.now c.if-tally-ne-TALLY_SIZE.false c.if-row-ne-ROW_SIZE.false _ _ (sym c.row_of_slot-a.ensures ∙ ap row_says c.in-Refused.is) c.count-in-Refused.ensures in
+    record { answer = p.0; bytes = p.1.0; tally = p.1.1 }
