@@ -1,0 +1,11 @@
+use Rattle.io.proofs.Counting.{prefix_len_of_le}
+use borrow.Author.Rules.{rules}
+use native.Mathlib.Omega.{arith}
+use Prim.Native.Nat.{◌-◌}
+use Rattle.console.proofs.input.read_after.Goals as goal
+
+pub returns-then-got-lt0 : goal.returns-then-got-lt0
+returns-then-got-lt0 c = prefix_len_of_le _ _ (omega arith)
+
+pub returns : goal.returns
+returns c = prefix_len_of_le _ _ (omega arith)

@@ -1,0 +1,8 @@
+use Rattle.io.proofs.Counting.{prefix_len_of_le}
+use borrow.Author.Rules.{rules}
+use native.Mathlib.Omega.{arith}
+use Prim.Native.Nat.{◌-◌}
+use Rattle.console.proofs.input.read_on.Goals as goal
+
+pub returns : goal.returns
+returns c = prefix_len_of_le _ _ (omega arith)

@@ -1,0 +1,8 @@
+use mathlib.Core.Bool.{true≢false}
+use borrow.Author.Rules.{rules}
+use Prim.Native.Nat.{◌-◌}
+use mathlib.Core.Path.{sym}
+use Rattle.console.proofs.words.starts.Goals as goal
+
+pub returns-then-s-eq0 : goal.returns-then-s-eq0
+returns-then-s-eq0 c = λ e. absurd (true≢false (sym e))

@@ -1,0 +1,25 @@
+use borrow.Author.Rules.{rules}
+use native.Mathlib.Omega.{arith}
+use Prim.Native.Nat.{◌-◌, ◌≤◌}
+use mathlib.Core.Path.{◌≡◌, refl, sym, ◌∙◌}
+use lib.ListN.{length, drop}
+use Rattle.bits.specs.Bits.{puts_at}
+use Rattle.d1_subframes.specs.Subframe.{info_widths, offset_of, infos_of, data_of}
+use Rattle.d1_subframes.proofs.LoopLaws.{info_step, info_end}
+use Rattle.d1_subframes.proofs.data_of.Goals as goal
+
+pub loop-i-init : goal.loop-i-init
+unfolding data_of
+loop-i-init c = (omega arith, refl, refl)
+
+pub loop-i-preserved : goal.loop-i-preserved
+loop-i-preserved c =
+    let l = c.loop-i in (
+      omega arith,
+      c.put.auto.0 ∙ l.invariant.1,
+      rw (c.put.ensures, c.width_of.ensures, c.offset_of.ensures, c.info_at-v.ensures)
+          (sym (info_step _ l.out l.i (omega arith)) ∙ l.invariant.2),
+    )
+
+pub returns : goal.returns
+returns c = let l = c.loop-i in sym (info_end _ _ l.i (omega arith)) ∙ l.invariant.2

@@ -1,0 +1,17 @@
+use borrow.Author.Rules.{rules}
+use native.Mathlib.Omega.{arith}
+use Prim.Native.Nat.{ℕ, ◌+◌, ◌-◌, ◌≤◌}
+use mathlib.Core.Path.{◌≡◌, refl}
+use lib.ListN.{get_or, length, drop}
+use mathlib.Core.List.{◌++◌}
+use Rattle.bits.specs.Bytes.{row_at}
+use Rattle.bits.specs.Table.{table}
+use Rattle.bits.proofs.TableLaws.{fill_start, fill_step, fill_done}
+use Rattle.flat_biases.proofs.read_codes.Given as goal
+
+abbrev pub invariant-loop-i : goal.invariant-loop-i
+invariant-loop-i l =
+    (l.i ≤ 70) × (length l.initial.out ≡ 70) × (l.out ≡ table (λ (k : ℕ). get_or l.t (446 + k) 0) l.i ++ drop l.i l.initial.out)
+
+abbrev pub decreases-loop-i : goal.decreases-loop-i
+decreases-loop-i l = 70 - l.i

@@ -1,0 +1,11 @@
+use borrow.Author.Rules.{rules}
+use Rattle.log.specs.Epochs.{with_epoch}
+use Rattle.log.proofs.epochs.with_epoch.Goals as goal
+
+pub returns-then-e : goal.returns-then-e
+unfolding with_epoch
+returns-then-e c = rw (c.if-e.true, c.longer-gap.ensures, c.lapse.ensures)
+
+pub returns : goal.returns
+unfolding with_epoch
+returns c = rw c.if-e.false

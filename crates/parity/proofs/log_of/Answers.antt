@@ -1,0 +1,6 @@
+use Rattle.std.proofs.Common.{◌-◌, rules}
+use Rattle.field64.proofs.PaddedLaws.{pad_at}
+use Rattle.parity.proofs.log_of.Goals as goal
+
+pub returns : goal.returns
+returns c = rw c.requires.0 (pad_at _ (search rules))

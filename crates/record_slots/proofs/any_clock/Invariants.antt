@@ -1,0 +1,16 @@
+use borrow.Author.Rules.{rules}
+use native.Mathlib.Omega.{arith}
+use Prim.Native.Nat.{ℕ, ◌≤◌}
+use mathlib.Core.Path.{◌≡◌, ap, ◌∙◌}
+use lib.ListN.{drop, get_or}
+use Rattle.bits.specs.Some.{any_of}
+use Rattle.records.specs.Clock.{blank_clock}
+use Rattle.judge.specs.Judge.{is_named, clock_slots}
+use Rattle.judge.proofs.JudgeLaws.{named_end, named_turn}
+use Rattle.record_slots.proofs.any_clock.Given as goal
+
+abbrev pub invariant-loop-i : goal.invariant-loop-i
+invariant-loop-i l = (l.i ≤ 23) × (l.seen ≡ any_of is_named (drop l.i (clock_slots l.ks)))
+
+abbrev pub decreases-loop-i : goal.decreases-loop-i
+decreases-loop-i l = l.i

@@ -1,0 +1,25 @@
+use native.Mathlib.Omega.{arith}
+use borrow.Author.Rules.{rules}
+use Prim.Native.Nat.{ℕ, ◌-◌, ◌≤◌}
+use mathlib.Core.Path.{◌≡◌, refl}
+use mathlib.Core.List.{◌++◌}
+use lib.ListN.{length, drop, get_or}
+use Rattle.bits.specs.Table.{table}
+use Rattle.bits.proofs.TableLaws.{fill_start, fill_step, fill_done}
+use Rattle.judge.specs.Judge.{orbit_slots}
+use Rattle.records.specs.Orbit.{blank_orbit}
+use Rattle.record_slots.proofs.orbit_slots.Goals as goal
+
+pub loop-i-init : goal.loop-i-init
+loop-i-init c = (omega arith, refl, fill_start _ _)
+
+pub loop-i-preserved : goal.loop-i-preserved
+loop-i-preserved c =
+    let i = c.loop-i in
+    (omega arith, refl, fill_step _ i.i _ _ _ 0 (omega arith) i.invariant.2 refl)
+
+pub returns : goal.returns
+unfolding orbit_slots
+returns c =
+    let i = c.loop-i in
+    fill_done _ i.i 6 _ _ (omega arith) refl i.invariant.2

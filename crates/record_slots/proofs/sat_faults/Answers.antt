@@ -1,0 +1,13 @@
+use borrow.Author.Rules.{rules}
+use mathlib.Core.Path.{sym, ◌∙◌}
+use borrow.Author.Tests.{not-true}
+use Rattle.judge.proofs.JudgeLaws.{high_none, twice_none}
+use Rattle.record_slots.proofs.sat_faults.Goals as goal
+
+pub returns-then-not-any_sat : goal.returns-then-not-any_sat
+returns-then-not-any_sat c =
+    let none = sym c.any_sat.ensures ∙ not-true _ c.if-not-any_sat.true in
+    (sym (high_none _ none), sym (twice_none _ none))
+
+pub returns : goal.returns
+returns c = rw (← c.sat_slots-a.ensures) c.faults_in.ensures

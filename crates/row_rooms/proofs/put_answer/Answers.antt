@@ -1,0 +1,9 @@
+use borrow.Author.Rules.{rules}
+use Rattle.row_calls.proofs.RowsLaws.{answer_none, answer_some}
+use Rattle.row_rooms.proofs.put_answer.Goals as goal
+
+pub returns-in_default : goal.returns-in_default
+returns-in_default c = let a = c.args in answer_none a.rows.now a.n a.a _ c.enum_told-1.given.1
+
+pub returns : goal.returns
+returns c = let a = c.args in answer_some a.rows.now a.n a.a _ _ c.a-1.given.1 c.put_row.ensures

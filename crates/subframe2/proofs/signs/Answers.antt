@@ -1,0 +1,8 @@
+use mathlib.Core.Path.{refl}
+use Rattle.bits.specs.Table.{table}
+use Rattle.subframe2.specs.Fields.{rows}
+use Rattle.subframe2.proofs.signs.Goals as goal
+
+pub returns : goal.returns
+unfolding rows table
+returns c = refl

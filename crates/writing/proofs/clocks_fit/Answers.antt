@@ -1,0 +1,33 @@
+use native.Mathlib.Omega.{arith}
+use borrow.Author.Rules.{rules}
+use Prim.Native.Nat.{◌-◌, ◌≤◌}
+use mathlib.Core.Path.{◌≡◌, sym, ◌∙◌}
+use mathlib.Core.Bool.{true}
+use borrow.Author.Tests.{not-true, not-false}
+use Rattle.records.specs.Clock.{clock_widths}
+use Rattle.fitting.specs.Fits.{eight, all_fit}
+use Rattle.writing.specs.Fits.{clock_row}
+use Rattle.fitting.proofs.FitLaws.{all_none, all_more, all_miss}
+use Rattle.writing.proofs.FitLaws.{clock_eight}
+use Rattle.writing.proofs.clocks_fit.Goals as goal
+
+pub loop-i-init : goal.loop-i-init
+loop-i-init c = (omega arith, c.clock_widths-ws.ensures, all_none _ _)
+
+pub returns-then-not-row_fits : goal.returns-then-not-row_fits
+returns-then-not-row_fits c =
+    let i = c.loop-i in
+    let e = rw (i.invariant.1, c.clock_vals.ensures, clock_eight) at c.row_fits.ensures in
+    sym (all_miss _ _ 23 i.i (omega arith) (sym e ∙ not-true _ c.if-not-row_fits.true))
+
+pub loop-i-preserved : goal.loop-i-preserved
+loop-i-preserved c =
+    let i = c.loop-i in
+    let e = rw (i.invariant.1, c.clock_vals.ensures, clock_eight) at c.row_fits.ensures in
+    (omega arith, i.invariant.1, all_more _ _ i.i i.invariant.2 (sym e ∙ not-false _ c.if-not-row_fits.false))
+
+pub returns : goal.returns
+returns c =
+    let i = c.loop-i in
+    let e : i.i ≡ 23 = omega arith in
+    sym (rw e at i.invariant.2)
