@@ -7,49 +7,49 @@ mod lines;
 mod reading;
 
 use console::args::{Args, own, own_count};
+use console::input::{open, standard};
 use console::turns::status_of;
-use libc::{STDERR_FILENO, STDIN_FILENO};
 
 // The file of a name; - is standard input. The status.
-fn show_file(name: &[u8]) -> u8 {
+fn show_file(rt: &HostRuntime, name: &[u8]) -> u8 {
     if console::words::same(name, b"-") {
-        return status_of(reading::show_subframes(STDIN_FILENO, b"standard input"));
+        return status_of(reading::show_subframes(rt, &mut standard(rt), b"standard input"));
     }
-    let fd = os::open_read(name);
-    if fd < 0 {
-        console::say::say_errno(b"cnav1", name);
-        return 1;
+    match open(rt, name) {
+        Ok(mut input) => status_of(reading::show_subframes(rt, &mut input, name)),
+        Err(e) => {
+            console::say::say_errno(rt, b"cnav1", name, e);
+            1
+        }
     }
-    let status = status_of(reading::show_subframes(fd, name));
-    libc::close(fd);
-    status
 }
 
 // How the program is called.
-fn usage() -> u8 {
-    io::write_all(STDERR_FILENO, b"usage: cnav1 FILE\n");
+fn usage(rt: &HostRuntime) -> u8 {
+    console::say::complain(rt, b"usage: cnav1 FILE\n");
     2
 }
 
 // The program by its arguments; the status.
-fn run(a: Args) -> u8 {
+fn run(rt: &HostRuntime, a: Args) -> u8 {
     if own_count(a) != 1 {
-        return usage();
+        return usage(rt);
     }
     let mut path = io::buffer();
-    let n = own(a, 0, &mut path);
-    if os::errno() != 0 {
-        console::say::say_errno(b"cnav1", b"argument");
+    let p = own(rt, a, 0, &mut path);
+    if let Some(e) = p.error {
+        console::say::say_errno(rt, b"cnav1", b"argument", e);
         return 1;
     }
+    let n = p.count;
     if console::words::is_option(&path[..n]) {
-        return usage();
+        return usage(rt);
     }
-    show_file(&path[..n])
+    show_file(rt, &path[..n])
 }
 
-fn main() {
-    let a = console::args::begin();
-    let status = run(a);
+fn main(rt: HostRuntime) {
+    let a = console::args::begin(&rt);
+    let status = run(&rt, a);
     console::args::end(a, status);
 }

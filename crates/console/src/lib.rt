@@ -3,6 +3,7 @@
 #![tactic(auto)]
 
 pub mod args;
+pub mod errors;
 pub mod input;
 pub mod lines;
 pub mod out;

@@ -2,7 +2,8 @@
 ghost use Rattle.std.specs.Prelude.{◌≡◌, ◌≤◌, ◌<◌, length};
 ghost use Rattle.console.specs.Lines.{Inside};
 
-use crate::input::read_on;
+use crate::input::{Input, read_on};
+use std::io::Error;
 
 // A line stands in the room; the input has ended; a line is longer than 65536 bytes, or than the room; a read failed.
 #[derive(Clone, Copy)]
@@ -10,7 +11,7 @@ pub enum Step {
     Line,
     End,
     Long,
-    Failed,
+    Failed(Error),
 }
 
 // The line is room[start..end], without its line end (LF, or CR LF); what was read after it is room[next..to]. Lines are counted from 1. A line
@@ -120,14 +121,14 @@ fn found(start: usize, end: usize, to: usize) -> Lines
 }
 
 // The line of which the first bytes stand at the room's start is read to its end.
-fn read_line(fd: i32, room: &mut [u8], first: usize) -> Lines
+fn read_line(input: &mut Input, room: &mut [u8], first: usize) -> Lines
     ensures { Inside result room.new }
 {
     let mut have = first;
     while have < room.len() {
-        let p = read_on(fd, room, have);
-        if p.failed {
-            return without(Step::Failed);
+        let p = read_on(input, room, have);
+        if let Some(e) = p.error {
+            return without(Step::Failed(e));
         }
         let to = p.count;
         if to <= have {
@@ -184,7 +185,7 @@ fn numbered(room: &[u8], l: Lines, number: u64) -> Lines
 }
 
 // The next line, without its number.
-fn line_after(fd: i32, room: &mut [u8], l: Lines) -> Lines
+fn line_after(input: &mut Input, room: &mut [u8], l: Lines) -> Lines
     ensures { Inside result room.new }
 {
     let to = least(l.to, room.len());
@@ -194,24 +195,24 @@ fn line_after(fd: i32, room: &mut [u8], l: Lines) -> Lines
         return found(next, e, to);
     }
     let have = moved(room, next, to);
-    read_line(fd, room, have)
+    read_line(input, room, have)
 }
 
 // The next line, where the one before it stands as l says.
-pub fn next_line(fd: i32, room: &mut [u8], l: Lines) -> Lines
+pub fn next_line(input: &mut Input, room: &mut [u8], l: Lines) -> Lines
     ensures { Inside result room.new }
 {
     let number = raised(l.number);
-    let next = line_after(fd, room, l);
+    let next = line_after(input, room, l);
     numbered(room, next, number)
 }
 
 // One read behind a line that is longer than the room: what stands behind its end, or that it has not ended yet.
-fn read_past(fd: i32, room: &mut [u8], number: u64) -> Lines {
-    let p = read_on(fd, room, 0);
+fn read_past(input: &mut Input, room: &mut [u8], number: u64) -> Lines {
+    let p = read_on(input, room, 0);
     let to = p.count;
     let e = line_end(room, 0, to);
-    let mut r = without(past_step(p.failed, e, to));
+    let mut r = without(past_step(p.error, e, to));
     if e < to {
         r.next = e + 1;
         r.to = to;
@@ -220,10 +221,10 @@ fn read_past(fd: i32, room: &mut [u8], number: u64) -> Lines {
     r
 }
 
-// How far such a read came, by whether it failed, the position of a line end, and how much was read.
-fn past_step(failed: bool, end: usize, to: usize) -> Step {
-    if failed {
-        return Step::Failed;
+// How far such a read came, by the error of one that failed, the position of a line end, and how much was read.
+fn past_step(error: Option<Error>, end: usize, to: usize) -> Step {
+    if let Some(e) = error {
+        return Step::Failed(e);
     }
     if to == 0 {
         return Step::End;
@@ -238,17 +239,17 @@ fn is_unended(l: Lines) -> bool {
         Step::Line => false,
         Step::End => false,
         Step::Long => l.next == 0,
-        Step::Failed => false,
+        Step::Failed(_) => false,
     }
 }
 
 // After a line that is too long: its rest is passed over, so that the line behind it can come next. After any other nothing is to do.
-pub fn past_long(fd: i32, room: &mut [u8], l: Lines) -> Lines {
+pub fn past_long(input: &mut Input, room: &mut [u8], l: Lines) -> Lines {
     let mut r = l;
     let mut more = is_unended(l);
     let mut left = u64::MAX;
     while left > 0 && more {
-        let next = read_past(fd, room, l.number);
+        let next = read_past(input, room, l.number);
         r = next;
         more = is_unended(next);
         left -= 1;

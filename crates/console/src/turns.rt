@@ -3,8 +3,10 @@
 ghost use Rattle.std.specs.Prelude.{◌≡◌, ◌+◌, ◌≤◌};
 ghost use Rattle.io.specs.Counts.{IsPrefixLen};
 
+use crate::input::{Input, seek};
 use crate::put::{cursor_in, put_byte, put_bytes, put_number, put_where};
-use crate::say::say_where;
+use crate::say::{complain, put_cause, say_errno, say_where};
+use std::io::{Error, SeekFrom};
 
 // How a turn ended: there was nothing to write; something was written, or would be; the input has ended; something was wrong, and was said.
 pub const NOTHING: u8 = 0;
@@ -43,17 +45,19 @@ pub fn status_of(state: u8) -> u8
 }
 
 // Whether an input can be passed over twice.
-pub fn rewinds(fd: i32) -> bool {
-    libc::lseek(fd, 0, libc::SEEK_CUR) >= 0
+pub fn rewinds(input: &mut Input) -> bool {
+    seek(input, SeekFrom::Current(0)).is_none()
 }
 
 // The second pass over an input begins: true, or the system's word is said.
-pub fn rewound(program: &[u8], file: &[u8], fd: i32) -> bool {
-    if libc::lseek(fd, 0, libc::SEEK_SET) == 0 {
-        return true;
+pub fn rewound(rt: &HostRuntime, program: &[u8], file: &[u8], input: &mut Input) -> bool {
+    match seek(input, SeekFrom::Start(0)) {
+        None => true,
+        Some(e) => {
+            say_errno(rt, program, file, e);
+            false
+        }
     }
-    crate::say::say_errno(program, file);
-    false
 }
 
 // The plural of a thing, but for one of it.
@@ -82,23 +86,38 @@ fn put_written(room: &mut [u8], at: usize, thing: &[u8], p: Pass) -> usize
 }
 
 // What is wrong with a line; the answer is that something was.
-pub fn say_line(program: &[u8], file: &[u8], thing: &[u8], p: Pass, what: &[u8]) -> u8
+pub fn say_line(
+    rt: &HostRuntime,
+    program: &[u8],
+    file: &[u8],
+    thing: &[u8],
+    p: Pass,
+    what: &[u8],
+) -> u8
     ensures { result ≡ 3 }
 {
     let mut room = io::buffer();
     let a = put_bytes(&mut room, 0, what);
     let n = put_written(&mut room, a, thing, p);
-    say_where(program, file, b"line", p.number, &room[..n]);
+    say_where(rt, program, file, b"line", p.number, &room[..n]);
     WRONG
 }
 
 // What the system says where a line cannot be read; the answer is that something was wrong.
-pub fn say_unread(program: &[u8], file: &[u8], thing: &[u8], p: Pass) -> u8
+pub fn say_unread(
+    rt: &HostRuntime,
+    program: &[u8],
+    file: &[u8],
+    thing: &[u8],
+    p: Pass,
+    e: Error,
+) -> u8
     ensures { result ≡ 3 }
 {
     let mut room = io::large_buffer();
     let a = put_where(&mut room, program, file, b"line", p.number);
-    let n = put_written(&mut room, a, thing, p);
-    os::fail(&room[..n]);
+    let b = put_written(&mut room, a, thing, p);
+    let n = put_cause(&mut room, b, e);
+    complain(rt, &room[..n]);
     WRONG
 }

@@ -7,66 +7,69 @@ mod reading;
 mod writing;
 
 use console::args::{Args, own, own_count, own_is};
-use console::turns::status_of;
-use libc::{STDERR_FILENO, STDIN_FILENO};
+use console::input::{Input, open, standard};
+use console::turns::{rewinds, status_of};
 
 // All of an input: lines to subframes, or subframes to lines. The status.
-fn pass_all(fd: i32, name: &[u8], lines: bool, once: bool) -> u8 {
+fn pass_all(rt: &HostRuntime, input: &mut Input, name: &[u8], lines: bool, once: bool) -> u8 {
     if lines {
-        return status_of(writing::write_subframes(fd, name, once));
+        return status_of(writing::write_subframes(rt, input, name, once));
     }
-    status_of(reading::show_subframes(fd, name))
+    status_of(reading::show_subframes(rt, input, name))
 }
 
 // The file of a name; - is standard input.
-fn pass_file(name: &[u8], lines: bool) -> u8 {
+fn pass_file(rt: &HostRuntime, name: &[u8], lines: bool) -> u8 {
     if console::words::same(name, b"-") {
-        return pass_all(STDIN_FILENO, b"standard input", lines, true);
+        return pass_all(rt, &mut standard(rt), b"standard input", lines, true);
     }
-    let fd = os::open_read(name);
-    if fd < 0 {
-        console::say::say_errno(b"d1", name);
-        return 1;
+    match open(rt, name) {
+        Ok(mut input) => {
+            let once = !rewinds(&mut input);
+            pass_all(rt, &mut input, name, lines, once)
+        }
+        Err(e) => {
+            console::say::say_errno(rt, b"d1", name, e);
+            1
+        }
     }
-    let status = pass_all(fd, name, lines, !console::turns::rewinds(fd));
-    libc::close(fd);
-    status
 }
 
 // How the program is called.
-fn usage() -> u8 {
-    io::write_all(STDERR_FILENO, b"usage: d1 [-w] FILE\n");
+fn usage(rt: &HostRuntime) -> u8 {
+    console::say::complain(rt, b"usage: d1 [-w] FILE\n");
     2
 }
 
 // The file of the program's own argument i.
-fn pass_arg(a: Args, i: usize, lines: bool) -> u8 {
+fn pass_arg(rt: &HostRuntime, a: Args, i: usize, lines: bool) -> u8 {
     let mut path = io::buffer();
-    let n = own(a, i, &mut path);
-    if os::errno() != 0 {
-        console::say::say_errno(b"d1", b"argument");
+    let p = own(rt, a, i, &mut path);
+    if let Some(e) = p.error {
+        console::say::say_errno(rt, b"d1", b"argument", e);
         return 1;
     }
+    let n = p.count;
     if console::words::is_option(&path[..n]) {
-        return usage();
+        return usage(rt);
     }
-    pass_file(&path[..n], lines)
+    pass_file(rt, &path[..n], lines)
 }
 
 // The program by its arguments; the status.
-fn run(a: Args) -> u8 {
+fn run(rt: &HostRuntime, a: Args) -> u8 {
     let count = own_count(a);
     if count == 1 {
-        return pass_arg(a, 0, false);
+        return pass_arg(rt, a, 0, false);
     }
-    if (count == 2) & own_is(a, 0, b"-w") {
-        return pass_arg(a, 1, true);
+    if (count == 2) & own_is(rt, a, 0, b"-w") {
+        return pass_arg(rt, a, 1, true);
     }
-    usage()
+    usage(rt)
 }
 
-fn main() {
-    let a = console::args::begin();
-    let status = run(a);
+fn main(rt: HostRuntime) {
+    let a = console::args::begin(&rt);
+    let status = run(&rt, a);
     console::args::end(a, status);
 }

@@ -2,6 +2,7 @@
 ghost use Rattle.io.specs.Counts.{IsPrefixLen};
 
 use crate::fields::{frame_of, put_hex, second_of};
+use console::input::Input;
 use console::put::{put_byte, put_text};
 use console::turns::{ENDED, NOTHING, WRITTEN, WRONG};
 use verdict::number_of;
@@ -16,61 +17,61 @@ fn put_data(room: &mut [u8], d: &[u8]) -> usize
 }
 
 // A line goes to standard output.
-fn write_line(line: &[u8]) -> u8 {
-    if console::out::write(b"d1", line) {
+fn write_line(rt: &HostRuntime, line: &[u8]) -> u8 {
+    if console::out::write(rt, b"d1", line) {
         return WRITTEN;
     }
     WRONG
 }
 
 // The line of a subframe.
-fn write_data(d: &[u8]) -> u8 {
+fn write_data(rt: &HostRuntime, d: &[u8]) -> u8 {
     let mut room = [0u8; 120];
     let a = put_data(&mut room, d);
     let n = put_byte(&mut room, a, 10);
-    write_line(&room[..n])
+    write_line(rt, &room[..n])
 }
 
 // The line of a refusal.
-fn write_refused(refusal: u8) -> u8 {
+fn write_refused(rt: &HostRuntime, refusal: u8) -> u8 {
     let mut room = [0u8; 40];
     let numbers = [refusal as u64];
     let n = put_text(&mut room, 0, b"refused #\n", &numbers);
-    write_line(&room[..n])
+    write_line(rt, &room[..n])
 }
 
 // The line of a subframe's bytes.
-fn show_subframe(s: &[u8]) -> u8 {
+fn show_subframe(rt: &HostRuntime, s: &[u8]) -> u8 {
     let mut d = [0u8; 28];
     let refusal = number_of(d1_subframes::read_subframe(&mut d, s));
     if refusal != 0 {
-        return write_refused(refusal);
+        return write_refused(rt, refusal);
     }
-    write_data(&d)
+    write_data(rt, &d)
 }
 
 // The next subframe of a file.
-fn turn(fd: i32, name: &[u8], done: u64) -> u8 {
+fn turn(rt: &HostRuntime, input: &mut Input, name: &[u8], done: u64) -> u8 {
     let mut room = [0u8; 38];
-    let p = console::input::fill(fd, &mut room);
-    if p.failed {
-        console::say::say_errno_where(b"d1", name, b"offset", done);
+    let p = console::input::fill(input, &mut room);
+    if let Some(e) = p.error {
+        console::say::say_errno_where(rt, b"d1", name, b"offset", done, e);
         return WRONG;
     }
     let n = p.count;
     if n == 0 {
         return ENDED;
     }
-    show_subframe(&room[..n])
+    show_subframe(rt, &room[..n])
 }
 
 // All subframes of a file, and how the last turn ended.
-pub(crate) fn show_subframes(fd: i32, name: &[u8]) -> u8 {
+pub(crate) fn show_subframes(rt: &HostRuntime, input: &mut Input, name: &[u8]) -> u8 {
     let mut state = NOTHING;
     let mut done: u64 = 0;
     let mut left: u64 = 100000000000000000;
     while left > 0 && state < ENDED {
-        state = turn(fd, name, done);
+        state = turn(rt, input, name, done);
         done = done % 10000000000000000000 + 38;
         left -= 1;
     }

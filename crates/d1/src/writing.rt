@@ -3,6 +3,7 @@ ghost use Rattle.console.specs.Lines.{Inside};
 
 use crate::faults;
 use crate::fields::{data_of, frame_of, second_of};
+use console::input::Input;
 use console::lines::{Lines, Step, next_line};
 use console::turns::{ENDED, NOTHING, Pass, WRITTEN, WRONG, counted};
 use console::words::{Number, next_word, number_of, same};
@@ -120,69 +121,69 @@ fn read_line(s: &[u8]) -> Line {
 }
 
 // A subframe goes to standard output, in a pass that writes.
-fn write_subframe(p: Pass, s: &[u8]) -> u8 {
+fn write_subframe(rt: &HostRuntime, p: Pass, s: &[u8]) -> u8 {
     if !p.writes {
         return WRITTEN;
     }
-    if console::out::write(b"d1", s) {
+    if console::out::write(rt, b"d1", s) {
         return WRITTEN;
     }
     WRONG
 }
 
 // Information bits are written as a subframe, or refused.
-fn write_data(name: &[u8], p: Pass, d: &[u8]) -> u8 {
+fn write_data(rt: &HostRuntime, name: &[u8], p: Pass, d: &[u8]) -> u8 {
     let mut room = [0u8; 38];
     let refusal = verdict::number_of(d1_subframes::write_subframe(&mut room, d));
     if refusal != 0 {
-        return faults::say_refused(name, p, refusal);
+        return faults::say_refused(rt, name, p, refusal);
     }
-    write_subframe(p, &room)
+    write_subframe(rt, p, &room)
 }
 
 // A line that is well formed: its numbers must be those in its data.
-fn write_line(name: &[u8], p: Pass, l: Line) -> u8 {
+fn write_line(rt: &HostRuntime, name: &[u8], p: Pass, l: Line) -> u8 {
     let d = l.data;
     let frame = frame_of(&d) as u32;
     let second = second_of(&d);
     if frame != l.frame {
-        return faults::say_differs(name, p, 2, frame);
+        return faults::say_differs(rt, name, p, 2, frame);
     }
     if second != l.second {
-        return faults::say_differs(name, p, 4, second);
+        return faults::say_differs(rt, name, p, 4, second);
     }
-    write_data(name, p, &d)
+    write_data(rt, name, p, &d)
 }
 
 // A line is malformed at a cursor.
-fn say_malformed(name: &[u8], p: Pass, s: &[u8], c: Cursor) -> u8 {
+fn say_malformed(rt: &HostRuntime, name: &[u8], p: Pass, s: &[u8], c: Cursor) -> u8 {
     let w = next_word(s, c.at);
     let a = w.from;
     let b = w.to;
-    faults::say_malformed(name, p, c.fault, &s[a..b])
+    faults::say_malformed(rt, name, p, c.fault, &s[a..b])
 }
 
 // A line without a byte order mark.
-fn take_text(name: &[u8], p: Pass, s: &[u8]) -> u8 {
+fn take_text(rt: &HostRuntime, name: &[u8], p: Pass, s: &[u8]) -> u8 {
     if console::words::is_remark(s) {
         return NOTHING;
     }
     let l = read_line(s);
     let c = l.cursor;
     if c.fault != 0 {
-        return say_malformed(name, p, s, c);
+        return say_malformed(rt, name, p, s, c);
     }
-    write_line(name, p, l)
+    write_line(rt, name, p, l)
 }
 
 // A line.
-fn take_line(name: &[u8], p: Pass, s: &[u8]) -> u8 {
+fn take_line(rt: &HostRuntime, name: &[u8], p: Pass, s: &[u8]) -> u8 {
     let a = console::words::text_start(s, p.number);
-    take_text(name, p, &s[a..])
+    take_text(rt, name, p, &s[a..])
 }
 
 // A step of the reading.
-fn turn(name: &[u8], room: &[u8], l: Lines, p: Pass) -> u8
+fn turn(rt: &HostRuntime, name: &[u8], room: &[u8], l: Lines, p: Pass) -> u8
     requires { Inside l room.now }
 {
     let a = l.start;
@@ -190,27 +191,33 @@ fn turn(name: &[u8], room: &[u8], l: Lines, p: Pass) -> u8
     let step = l.step;
     match step {
         Step::End => ENDED,
-        Step::Failed => faults::say_unread(name, p),
-        Step::Long => faults::say_line(name, p, b"longer than 65536 bytes"),
-        Step::Line => take_line(name, p, &room[a..b]),
+        Step::Failed(e) => faults::say_unread(rt, name, p, e),
+        Step::Long => faults::say_line(rt, name, p, b"longer than 65536 bytes"),
+        Step::Line => take_line(rt, name, p, &room[a..b]),
     }
 }
 
 // All lines of an input, in a lent room, in a pass that writes or that only looks for faults.
-fn all_lines(fd: i32, name: &[u8], room: &mut [u8], writes: bool) -> u8 {
+fn all_lines(
+    rt: &HostRuntime,
+    input: &mut Input,
+    name: &[u8],
+    room: &mut [u8],
+    writes: bool,
+) -> u8 {
     let mut l = console::lines::begin();
     let mut state = NOTHING;
     let mut written: u64 = 0;
     let mut left = u64::MAX;
     while left > 0 && state < ENDED {
-        let next = next_line(fd, room, l);
+        let next = next_line(input, room, l);
         l = next;
         let p = Pass {
             writes,
             number: next.number,
             written,
         };
-        state = turn(name, room, next, p);
+        state = turn(rt, name, room, next, p);
         written = counted(written, state);
         left -= 1;
     }
@@ -218,21 +225,21 @@ fn all_lines(fd: i32, name: &[u8], room: &mut [u8], writes: bool) -> u8 {
 }
 
 // All lines of a file, twice: nothing is written where one is faulty.
-fn twice(fd: i32, name: &[u8], room: &mut [u8]) -> u8 {
-    if all_lines(fd, name, room, false) == WRONG {
+fn twice(rt: &HostRuntime, input: &mut Input, name: &[u8], room: &mut [u8]) -> u8 {
+    if all_lines(rt, input, name, room, false) == WRONG {
         return WRONG;
     }
-    if !console::turns::rewound(b"d1", name, fd) {
+    if !console::turns::rewound(rt, b"d1", name, input) {
         return WRONG;
     }
-    all_lines(fd, name, room, true)
+    all_lines(rt, input, name, room, true)
 }
 
 // All lines of an input: a file is passed over twice, what cannot be rewound once.
-pub(crate) fn write_subframes(fd: i32, name: &[u8], once: bool) -> u8 {
+pub(crate) fn write_subframes(rt: &HostRuntime, input: &mut Input, name: &[u8], once: bool) -> u8 {
     let mut room = console::lines::line_room();
     if once {
-        return all_lines(fd, name, &mut room, true);
+        return all_lines(rt, input, name, &mut room, true);
     }
-    twice(fd, name, &mut room)
+    twice(rt, input, name, &mut room)
 }

@@ -11,7 +11,6 @@ mod say;
 mod sheet;
 
 use held_mask::LEDGER_SIZE;
-use libc::STDOUT_FILENO;
 use say::{say, say_text, say_ura};
 use verdict::number_of;
 
@@ -87,74 +86,80 @@ fn caught_count() -> u64 {
 }
 
 // Writes a product of the field.
-fn say_product(a: u8, b: u8) {
+fn say_product(rt: &HostRuntime, a: u8, b: u8) {
     let numbers = [a as u64, b as u64, field64::mul(a, b) as u64];
-    say_text(b"field: # x # = #\n", &numbers);
+    say_text(rt, b"field: # x # = #\n", &numbers);
 }
 
 // Writes the check of 462 zero bits, the last of them made b.
-fn say_check(text: &[u8], b: u64) {
+fn say_check(rt: &HostRuntime, text: &[u8], b: u64) {
     let mut message = [0u8; 61];
     put_bits::put(&mut message, 461, 1, b);
-    say(text);
-    io::print_hex(STDOUT_FILENO, check24::check(&message, 0, 462) as u64, 6);
-    say(b"\n");
+    say(rt, text);
+    let mut digits = [0u8; 16];
+    let k = io::hex(check24::check(&message, 0, 462) as u64, 6, &mut digits);
+    say(rt, &digits[..k]);
+    say(rt, b"\n");
 }
 
 // Writes whether the appendix's code word passes the parity check.
-fn say_parity() {
+fn say_parity(rt: &HostRuntime) {
     let word = frame();
-    say(b"appendix word: parity ");
+    say(rt, b"appendix word: parity ");
     if parity::parity_ok(&word) {
-        say(b"holds\n");
+        say(rt, b"holds\n");
     } else {
-        say(b"does not hold\n");
+        say(rt, b"does not hold\n");
     }
 }
 
 // Writes how many damaged symbols are caught.
-fn say_caught() {
+fn say_caught(rt: &HostRuntime) {
     let numbers = [caught_count()];
-    say_text(b"damaged symbols caught: # of 162\n", &numbers);
+    say_text(rt, b"damaged symbols caught: # of 162\n", &numbers);
 }
 
 // Writes which groups fail where symbol k is damaged.
-fn say_groups(k: u8) {
+fn say_groups(rt: &HostRuntime, k: u8) {
     let out = damaged(k);
     let g = parity::failed_groups(&out);
     let numbers = [k as u64, g.first as u64, g.failing as u64];
-    say_text(b"symbol # damaged: first group #, failing #\n", &numbers);
+    say_text(
+        rt,
+        b"symbol # damaged: first group #, failing #\n",
+        &numbers,
+    );
 }
 
 // Writes the accuracy index of a code.
-fn say_code(code: u8) {
+fn say_code(rt: &HostRuntime, code: u8) {
     let numbers = [code as u64];
-    say_text(b"URA code #: ", &numbers);
-    say_ura(ura::ura_of(code));
-    say(b"\n");
+    say_text(rt, b"URA code #: ", &numbers);
+    say_ura(rt, ura::ura_of(code));
+    say(rt, b"\n");
 }
 
 // Writes the bit after the last of a message with these counts.
-fn say_end(kind: u8, numc: u8, numo: u8) {
+fn say_end(rt: &HostRuntime, kind: u8, numc: u8, numo: u8) {
     let end = layout::end_of(layout::layout_of(kind, numc, numo));
     let numbers = [kind as u64, numc as u64, numo as u64, end as u64];
-    say_text(b"type #, # and #, ends at #\n", &numbers);
+    say_text(rt, b"type #, # and #, ends at #\n", &numbers);
 }
 
 // Writes the answer to a message.
-fn say_read(text: &[u8], message: &[u8]) {
+fn say_read(rt: &HostRuntime, text: &[u8], message: &[u8]) {
     let reading = message::read(message);
     let v = reading.verdict;
     let numbers = [number_of(v) as u64];
-    say(text);
-    say_text(b"#\n", &numbers);
+    say(rt, text);
+    say_text(rt, b"#\n", &numbers);
 }
 
 // Writes the answer to a message of zero bytes but for one bit.
-fn say_read_bit(text: &[u8], at: usize) {
+fn say_read_bit(rt: &HostRuntime, text: &[u8], at: usize) {
     let mut message = [0u8; 61];
     put_bits::put(&mut message, at, 1, 1);
-    say_read(text, &message);
+    say_read(rt, text, &message);
 }
 
 // Whether a ledger can be opened for a PRN.
@@ -164,72 +169,72 @@ fn opens(prn: u8) -> bool {
 }
 
 // Writes the PRN if a ledger can be opened for it.
-fn say_if_opens(prn: u8) {
+fn say_if_opens(rt: &HostRuntime, prn: u8) {
     if opens(prn) {
         let numbers = [prn as u64];
-        say_text(b" #", &numbers);
+        say_text(rt, b" #", &numbers);
     }
 }
 
 // Writes each PRN that a ledger can be opened for.
-fn say_opened() {
-    say(b"ledgers opened:");
+fn say_opened(rt: &HostRuntime) {
+    say(rt, b"ledgers opened:");
     let mut prn: u8 = 0;
     while prn < 255 {
-        say_if_opens(prn);
+        say_if_opens(rt, prn);
         prn += 1;
     }
-    say_if_opens(255);
-    say(b"\n");
+    say_if_opens(rt, 255);
+    say(rt, b"\n");
 }
 
 // The field, the check and the parity.
-fn say_codes() {
-    say_product(2, 32);
-    say_product(2, 63);
-    say_product(32, 32);
-    say_check(b"check of 462 zero bits: ", 0);
-    say_check(b"check with only the last bit set: ", 1);
-    say_parity();
-    say_caught();
-    say_groups(0);
-    say_groups(42);
-    say_groups(161);
+fn say_codes(rt: &HostRuntime) {
+    say_product(rt, 2, 32);
+    say_product(rt, 2, 63);
+    say_product(rt, 32, 32);
+    say_check(rt, b"check of 462 zero bits: ", 0);
+    say_check(rt, b"check with only the last bit set: ", 1);
+    say_parity(rt);
+    say_caught(rt);
+    say_groups(rt, 0);
+    say_groups(rt, 42);
+    say_groups(rt, 161);
 }
 
 // The accuracy indices and the ends.
-fn say_fields() {
-    say_code(0);
-    say_code(1);
-    say_code(19);
-    say_code(62);
-    say_code(63);
-    say_end(6, 22, 0);
-    say_end(6, 2, 5);
-    say_end(6, 3, 5);
-    say_end(7, 15, 0);
-    say_end(7, 2, 5);
-    say_end(7, 3, 5);
+fn say_fields(rt: &HostRuntime) {
+    say_code(rt, 0);
+    say_code(rt, 1);
+    say_code(rt, 19);
+    say_code(rt, 62);
+    say_code(rt, 63);
+    say_end(rt, 6, 22, 0);
+    say_end(rt, 6, 2, 5);
+    say_end(rt, 6, 3, 5);
+    say_end(rt, 7, 15, 0);
+    say_end(rt, 7, 2, 5);
+    say_end(rt, 7, 3, 5);
 }
 
 // The messages that are nearly all zero.
-fn say_messages() {
+fn say_messages(rt: &HostRuntime) {
     let zeros = [0u8; 61];
-    say_read(b"message of 61 zero bytes: ", &zeros);
-    say_read_bit(b"message with only bit 461 set: ", 461);
-    say_read_bit(b"message with only bit 487 set: ", 487);
-    say_read(b"message of 60 zero bytes: ", &zeros[..60]);
+    say_read(rt, b"message of 61 zero bytes: ", &zeros);
+    say_read_bit(rt, b"message with only bit 461 set: ", 461);
+    say_read_bit(rt, b"message with only bit 487 set: ", 487);
+    say_read(rt, b"message of 60 zero bytes: ", &zeros[..60]);
 }
 
 // Codes, fields, messages, and the cases.
-fn main() {
-    say_codes();
-    say_fields();
-    say_messages();
-    say_opened();
-    cases::refusals();
-    cases::the_list();
-    cases::the_newest();
-    cases::biases_and_codes();
-    ask::asked();
+fn main(rt: HostRuntime) {
+    say_codes(&rt);
+    say_fields(&rt);
+    say_messages(&rt);
+    say_opened(&rt);
+    cases::refusals(&rt);
+    cases::the_list(&rt);
+    cases::the_newest(&rt);
+    cases::biases_and_codes(&rt);
+    ask::asked(&rt);
 }

@@ -1,25 +1,39 @@
 // Writing to standard output.
-use console::put::put_text;
-use libc::STDOUT_FILENO;
+use console::errors::put_error;
+use console::put::{put_byte, put_bytes, put_text};
+use console::say::complain;
 use row::Row;
 use slots::System;
+use std::io::Error;
 use ura::Ura;
 
 // Writes bytes.
-pub(crate) fn say(text: &[u8]) {
-    io::write_all(STDOUT_FILENO, text);
+pub(crate) fn say(rt: &HostRuntime, text: &[u8]) {
+    let _ = rt.write_all(text);
+}
+
+// What the system says of a file that cannot be opened, on standard error.
+pub(crate) fn say_failed(rt: &HostRuntime, name: &[u8], e: Error) {
+    let mut room = io::buffer();
+    let a = put_bytes(&mut room, 0, name);
+    let b = put_bytes(&mut room, a, b": ");
+    let c = put_error(&mut room, b, e);
+    let n = put_byte(&mut room, c, 10);
+    complain(rt, &room[..n]);
 }
 
 // Writes a number.
-pub(crate) fn say_number(n: u64) {
-    io::print_decimal(STDOUT_FILENO, n);
+pub(crate) fn say_number(rt: &HostRuntime, n: u64) {
+    let mut digits = [0u8; 20];
+    let k = io::decimal(n, &mut digits);
+    say(rt, &digits[..k]);
 }
 
 // Writes a text with the next of some numbers for each mark # in it.
-pub(crate) fn say_text(text: &[u8], numbers: &[u64]) {
+pub(crate) fn say_text(rt: &HostRuntime, text: &[u8], numbers: &[u64]) {
     let mut room = io::buffer();
     let n = put_text(&mut room, 0, text, numbers);
-    say(&room[..n]);
+    say(rt, &room[..n]);
 }
 
 // How far a number lies from 0.
@@ -32,63 +46,63 @@ fn size_of(x: i32) -> u64 {
 }
 
 // Writes a number that may be negative.
-fn say_signed(x: i32) {
+fn say_signed(rt: &HostRuntime, x: i32) {
     if x < 0 {
-        say(b"-");
+        say(rt, b"-");
     }
-    say_number(size_of(x));
+    say_number(rt, size_of(x));
 }
 
 // Writes an accuracy index.
-pub(crate) fn say_ura(u: Ura) {
+pub(crate) fn say_ura(rt: &HostRuntime, u: Ura) {
     match u {
-        Ura::Unknown => say(b"unknown"),
-        Ura::Quarters(q) => say_number(q as u64),
-        Ura::Above => say(b"above"),
+        Ura::Unknown => say(rt, b"unknown"),
+        Ura::Quarters(q) => say_number(rt, q as u64),
+        Ura::Above => say(rt, b"above"),
     }
 }
 
 // Writes the name of a system.
-fn say_system(s: System) {
+fn say_system(rt: &HostRuntime, s: System) {
     match s {
-        System::Reserved => say(b"reserved"),
-        System::BeiDou => say(b"BeiDou"),
-        System::Gps => say(b"GPS"),
-        System::Galileo => say(b"Galileo"),
-        System::Glonass => say(b"GLONASS"),
+        System::Reserved => say(rt, b"reserved"),
+        System::BeiDou => say(rt, b"BeiDou"),
+        System::Gps => say(rt, b"GPS"),
+        System::Galileo => say(rt, b"Galileo"),
+        System::Glonass => say(rt, b"GLONASS"),
     }
 }
 
 // Writes a name and a value.
-fn say_value(name: &[u8], value: i32) {
-    say(name);
-    say_signed(value);
+fn say_value(rt: &HostRuntime, name: &[u8], value: i32) {
+    say(rt, name);
+    say_signed(rt, value);
 }
 
 // Writes what a row says of its satellite.
-fn say_satellite(row: Row) {
+fn say_satellite(rt: &HostRuntime, row: Row) {
     let slot = row.slot;
     let system = row.system;
     let first = [slot.0 as u64];
     let others = [row.number as u64, row.iodn as u64, row.corr as u64];
-    say_text(b"\n    slot #, ", &first);
-    say_system(system);
-    say_text(b" #, IODN #, corr #", &others);
+    say_text(rt, b"\n    slot #, ", &first);
+    say_system(rt, system);
+    say_text(rt, b" #, IODN #, corr #", &others);
 }
 
 // Writes the corrections of a row.
-fn say_corrections(row: Row) {
-    say_value(b", radial ", row.radial);
-    say_value(b", along ", row.along);
-    say_value(b", cross ", row.cross);
-    say_value(b", clock ", row.clock);
+fn say_corrections(rt: &HostRuntime, row: Row) {
+    say_value(rt, b", radial ", row.radial);
+    say_value(rt, b", along ", row.along);
+    say_value(rt, b", cross ", row.cross);
+    say_value(rt, b", clock ", row.clock);
 }
 
 // Writes a row, on a new line.
-pub(crate) fn say_row(row: Row) {
+pub(crate) fn say_row(rt: &HostRuntime, row: Row) {
     let ura = row.ura;
-    say_satellite(row);
-    say_corrections(row);
-    say(b", URA ");
-    say_ura(ura);
+    say_satellite(rt, row);
+    say_corrections(rt, row);
+    say(rt, b", URA ");
+    say_ura(rt, ura);
 }

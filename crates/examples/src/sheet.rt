@@ -9,42 +9,42 @@ fn digit(x: u8) -> u8 {
 }
 
 // Writes a byte in two hexadecimal digits, after a blank.
-fn say_byte(b: u8) {
+fn say_byte(rt: &HostRuntime, b: u8) {
     let text = [b' ', digit(b / 16), digit(b)];
-    say(&text);
+    say(rt, &text);
 }
 
 // Writes the first n bytes of a room.
-fn say_bytes(room: &[u8], n: usize) {
+fn say_bytes(rt: &HostRuntime, room: &[u8], n: usize) {
     let mut i: usize = 0;
     while i < room.len() {
         if i < n {
-            say_byte(room[i]);
+            say_byte(rt, room[i]);
         }
         i += 1;
     }
 }
 
 // Writes the sheet that a room was lent for, or the refusal, on the rest of a line.
-fn say_sheet(room: &[u8], s: Sheet) {
+fn say_sheet(rt: &HostRuntime, room: &[u8], s: Sheet) {
     match s {
-        Sheet::Written(length) => say_bytes(room, length as usize),
+        Sheet::Written(length) => say_bytes(rt, room, length as usize),
         Sheet::Refused(n) => {
             let numbers = [n as u64];
-            say_text(b" #", &numbers);
+            say_text(rt, b" #", &numbers);
         }
     }
-    say(b"\n");
+    say(rt, b"\n");
 }
 
 // Writes the sheet of a list, and what is answered where the room is one byte too short for it.
-pub(crate) fn say_sheets(ledger: &[u8], issues: &[u16]) {
+pub(crate) fn say_sheets(rt: &HostRuntime, ledger: &[u8], issues: &[u16]) {
     let mut room = [0u8; 64];
     let mut short = [0u8; 34];
     let s = write_sheet(&mut room, ledger, issues);
-    say(b"  sheet");
-    say_sheet(&room, s);
+    say(rt, b"  sheet");
+    say_sheet(rt, &room, s);
     let t = write_sheet(&mut short, ledger, issues);
-    say(b"  sheet in room for 34:");
-    say_sheet(&short, t);
+    say(rt, b"  sheet in room for 34:");
+    say_sheet(rt, &short, t);
 }

@@ -1,81 +1,105 @@
 // Files by name; - is standard input. Each function is told the program's name, with which what it says begins.
-use libc::STDIN_FILENO;
+use console::args::argument;
+use console::input::{Input, closed, open, standard};
+use console::say::say_errno;
+use std::fs;
+use std::io::Error;
 
-// Opens a file for reading; negative where it cannot be opened, and it has been said why.
-pub fn open_named(program: &[u8], name: &[u8]) -> i32 {
+// Opens a file for reading; nothing where it cannot be opened, and it has been said why.
+pub fn open_named(rt: &HostRuntime, program: &[u8], name: &[u8]) -> Option<Input> {
     if console::words::same(name, b"-") {
-        return STDIN_FILENO;
+        return Some(standard(rt));
     }
-    let fd = os::open_read(name);
-    if fd < 0 {
-        console::say::say_errno(program, name);
-    }
-    fd
-}
-
-// Closes what open_named opened.
-pub fn close_named(fd: i32) {
-    if fd != STDIN_FILENO {
-        libc::close(fd);
+    match open(rt, name) {
+        Ok(input) => Some(input),
+        Err(e) => {
+            say_errno(rt, program, name, e);
+            None
+        }
     }
 }
 
 // Whether argument i is a word.
-pub fn is_arg(i: usize, word: &[u8]) -> bool {
+pub fn is_arg(rt: &HostRuntime, i: usize, word: &[u8]) -> bool {
     let mut room = io::buffer();
-    let n = os::arg(i, &mut room);
+    let n = argument(rt, i, &mut room).count;
     console::words::same(&room[..n], word)
 }
 
 // Whether argument i is an option: a minus sign and more.
-pub fn is_option(i: usize) -> bool {
+pub fn is_option(rt: &HostRuntime, i: usize) -> bool {
     let mut room = io::buffer();
-    let n = os::arg(i, &mut room);
+    let n = argument(rt, i, &mut room).count;
     console::words::is_option(&room[..n])
 }
 
-// Whether the file of a path that ends in 0 may be read.
-fn may_read(path: [u8; 4096]) -> bool {
-    let mut p = path;
-    p[4095] = 0;
-    libc::access(&p, libc::R_OK) == 0
+// Why what a path names cannot be found or reached, where that is so; and whether it is a file or a folder, which can be opened and closed without
+// a trace. A pipe is let be, since whoever writes to it would be cut off.
+fn is_lasting(rt: &HostRuntime, path: &str) -> Result<bool, Error> {
+    match fs::metadata(rt, path) {
+        Ok(found) => Ok(found.is_file() | found.is_dir()),
+        Err(e) => Err(e),
+    }
+}
+
+// Why the file of a path may not be read, where that is so.
+fn refused_path(rt: &HostRuntime, path: &str, name: &[u8]) -> Option<Error> {
+    match is_lasting(rt, path) {
+        Ok(lasting) => { if lasting { open(rt, name).err() } else { None } }
+        Err(e) => Some(e),
+    }
+}
+
+// Why the file of a name may not be read, where that is so.
+fn refused(rt: &HostRuntime, name: &[u8]) -> Option<Error> {
+    match str::from_utf8(name) {
+        Ok(path) => refused_path(rt, path, name),
+        Err(_) => open(rt, name).err(),
+    }
 }
 
 // Whether standard input is open; where not, it has been said so. It is asked before any file is opened, which would take its number.
-fn is_input_open(program: &[u8]) -> bool {
-    if libc::lseek(STDIN_FILENO, 0, libc::SEEK_CUR) >= 0 {
-        return true;
+fn is_input_open(rt: &HostRuntime, program: &[u8]) -> bool {
+    match closed(rt) {
+        None => true,
+        Some(e) => {
+            say_errno(rt, program, b"standard input", e);
+            false
+        }
     }
-    if os::errno() != libc::EBADF {
-        return true;
+}
+
+// Whether the file of a name may be read; where not, it has been said why.
+fn may_read(rt: &HostRuntime, program: &[u8], name: &[u8]) -> bool {
+    if console::words::same(name, b"-") {
+        return is_input_open(rt, program);
     }
-    console::say::say_errno(program, b"standard input");
-    false
+    match refused(rt, name) {
+        None => true,
+        Some(e) => {
+            say_errno(rt, program, name, e);
+            false
+        }
+    }
 }
 
 // Whether the file of argument i may be read; where not, it has been said why.
-pub fn is_readable(program: &[u8], i: usize) -> bool {
+pub fn is_readable(rt: &HostRuntime, program: &[u8], i: usize) -> bool {
     let mut path = io::buffer();
-    let n = os::arg(i, &mut path);
-    if os::errno() != 0 {
-        console::say::say_errno(program, b"argument");
+    let p = argument(rt, i, &mut path);
+    if let Some(e) = p.error {
+        say_errno(rt, program, b"argument", e);
         return false;
     }
-    if console::words::same(&path[..n], b"-") {
-        return is_input_open(program);
-    }
-    if !may_read(path) {
-        console::say::say_errno(program, &path[..n]);
-        return false;
-    }
-    true
+    let n = p.count;
+    may_read(rt, program, &path[..n])
 }
 
 // Whether each file from argument i on may be read.
-pub fn all_readable(program: &[u8], i: usize, count: usize) -> bool {
+pub fn all_readable(rt: &HostRuntime, program: &[u8], i: usize, count: usize) -> bool {
     let mut k = i;
     while k < count {
-        if !is_readable(program, k) {
+        if !is_readable(rt, program, k) {
             return false;
         }
         k += 1;

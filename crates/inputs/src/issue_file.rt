@@ -2,8 +2,10 @@
 ghost use Rattle.console.specs.Lines.{Inside};
 
 use crate::ends::{is_over, least};
-use crate::files::{close_named, is_arg, is_readable, open_named};
+use crate::files::{is_arg, is_readable, open_named};
 use crate::satellites::satellite;
+use console::args::argument;
+use console::input::Input;
 use console::lines::{Lines, Step, next_line};
 use console::say::{say_found, say_where};
 use console::words::{Number, next_word, number_of, text_start};
@@ -51,9 +53,10 @@ fn line_gives(s: &[u8], at: usize) -> Given {
 }
 
 // A fault of a line, in words, with the word that is wrong.
-fn say_fault(program: &[u8], name: &[u8], number: u64, fault: u8, word: &[u8]) {
+fn say_fault(rt: &HostRuntime, program: &[u8], name: &[u8], number: u64, fault: u8, word: &[u8]) {
     if fault == 1 {
         say_found(
+            rt,
             program,
             name,
             number,
@@ -63,10 +66,18 @@ fn say_fault(program: &[u8], name: &[u8], number: u64, fault: u8, word: &[u8]) {
         return;
     }
     if fault == 2 {
-        say_found(program, name, number, b"expected an issue, 0 to 1023", word);
+        say_found(
+            rt,
+            program,
+            name,
+            number,
+            b"expected an issue, 0 to 1023",
+            word,
+        );
         return;
     }
     say_found(
+        rt,
         program,
         name,
         number,
@@ -77,6 +88,7 @@ fn say_fault(program: &[u8], name: &[u8], number: u64, fault: u8, word: &[u8]) {
 
 // The fault of a line whose wrong word stands between two positions.
 fn say_fault_at(
+    rt: &HostRuntime,
     program: &[u8],
     name: &[u8],
     number: u64,
@@ -87,19 +99,20 @@ fn say_fault_at(
 ) {
     let b = least(to, s.len());
     let a = least(from, b);
-    say_fault(program, name, number, fault, &s[a..b]);
+    say_fault(rt, program, name, number, fault, &s[a..b]);
 }
 
 // A satellite is named a second time.
-fn say_twice(program: &[u8], name: &[u8], number: u64, before: u64) {
+fn say_twice(rt: &HostRuntime, program: &[u8], name: &[u8], number: u64, before: u64) {
     let mut room = [0u8; 80];
     let a = console::put::put_bytes(&mut room, 0, b"satellite named before, on line ");
     let n = console::put::put_number(&mut room, a, before);
-    say_where(program, name, b"line", number, &room[..n]);
+    say_where(rt, program, name, b"line", number, &room[..n]);
 }
 
 // A slot's issue is put on the list, with the line that gave it; false where the slot has one already.
 fn put_issue(
+    rt: &HostRuntime,
     program: &[u8],
     name: &[u8],
     number: u64,
@@ -114,7 +127,7 @@ fn put_issue(
     let i = slot as usize - 1;
     let before = seen[i];
     if before != 0 {
-        say_twice(program, name, number, before);
+        say_twice(rt, program, name, number, before);
         return false;
     }
     seen[i] = number;
@@ -124,6 +137,7 @@ fn put_issue(
 
 // A line is taken; false where something is wrong with it, and it has been said what.
 fn take_line(
+    rt: &HostRuntime,
     program: &[u8],
     name: &[u8],
     number: u64,
@@ -134,9 +148,11 @@ fn take_line(
     let g = line_gives(s, text_start(s, number));
     match g {
         Given::Nothing => true,
-        Given::Issue(slot, issue) => put_issue(program, name, number, slot, issue, issues, seen),
+        Given::Issue(slot, issue) => put_issue(
+            rt, program, name, number, slot, issue, issues, seen,
+        ),
         Given::Fault(fault, from, to) => {
-            say_fault_at(program, name, number, fault, s, from, to);
+            say_fault_at(rt, program, name, number, fault, s, from, to);
             false
         }
     }
@@ -144,6 +160,7 @@ fn take_line(
 
 // A step of the reading: 0 to go on, 1 at the end, 2 where something is wrong.
 fn turn(
+    rt: &HostRuntime,
     program: &[u8],
     name: &[u8],
     room: &[u8],
@@ -158,16 +175,23 @@ fn turn(
     let step = l.step;
     match step {
         Step::End => 1,
-        Step::Failed => {
-            console::say::say_errno(program, name);
+        Step::Failed(e) => {
+            console::say::say_errno(rt, program, name, e);
             2
         }
         Step::Long => {
-            say_where(program, name, b"line", l.number, b"longer than 65536 bytes");
+            say_where(
+                rt,
+                program,
+                name,
+                b"line",
+                l.number,
+                b"longer than 65536 bytes",
+            );
             2
         }
         Step::Line => {
-            if take_line(program, name, l.number, &room[a..b], issues, seen) {
+            if take_line(rt, program, name, l.number, &room[a..b], issues, seen) {
                 0
             } else {
                 2
@@ -178,8 +202,9 @@ fn turn(
 
 // All lines are taken; false where something is wrong.
 fn all_lines(
+    rt: &HostRuntime,
     program: &[u8],
-    fd: i32,
+    input: &mut Input,
     name: &[u8],
     room: &mut [u8],
     issues: &mut [u16; 255],
@@ -189,41 +214,38 @@ fn all_lines(
     let mut state: u8 = 0;
     let mut left = u64::MAX;
     while left > 0 && state == 0 {
-        let next = next_line(fd, room, l);
+        let next = next_line(input, room, l);
         l = next;
-        state = turn(program, name, room, next, issues, seen);
+        state = turn(rt, program, name, room, next, issues, seen);
         left -= 1;
     }
     state == 1
 }
 
 // Whether argument i is an ISSUES file that may be read, or none; where not, it has been said why.
-pub fn may_read_issues(program: &[u8], i: usize) -> bool {
-    if is_arg(i, b"none") {
+pub fn may_read_issues(rt: &HostRuntime, program: &[u8], i: usize) -> bool {
+    if is_arg(rt, i, b"none") {
         return true;
     }
-    is_readable(program, i)
+    is_readable(rt, program, i)
 }
 
 // The issues of a file go on the list; false where something is wrong, and it has been said what.
-fn read_file(program: &[u8], name: &[u8], issues: &mut [u16; 255]) -> bool {
-    let fd = open_named(program, name);
-    if fd < 0 {
+fn read_file(rt: &HostRuntime, program: &[u8], name: &[u8], issues: &mut [u16; 255]) -> bool {
+    let Some(mut input) = open_named(rt, program, name) else {
         return false;
-    }
+    };
     let mut room = console::lines::line_room();
     let mut seen = [0u64; 255];
-    let good = all_lines(program, fd, name, &mut room, issues, &mut seen);
-    close_named(fd);
-    good
+    all_lines(rt, program, &mut input, name, &mut room, issues, &mut seen)
 }
 
 // The list of issues from the file of argument i; none leaves the list as it is. False where something is wrong, and it has been said what.
-pub fn read_issues(program: &[u8], i: usize, issues: &mut [u16; 255]) -> bool {
-    if is_arg(i, b"none") {
+pub fn read_issues(rt: &HostRuntime, program: &[u8], i: usize, issues: &mut [u16; 255]) -> bool {
+    if is_arg(rt, i, b"none") {
         return true;
     }
     let mut path = io::buffer();
-    let n = os::arg(i, &mut path);
-    read_file(program, &path[..n], issues)
+    let n = argument(rt, i, &mut path).count;
+    read_file(rt, program, &path[..n], issues)
 }

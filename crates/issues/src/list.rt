@@ -33,10 +33,10 @@ fn put_issues(room: &mut [u8], issues: &[u16; 255]) -> usize
 }
 
 // The whole list goes to standard output, in one piece; the answer is the status.
-pub(crate) fn write(issues: &[u16; 255]) -> u8 {
+pub(crate) fn write(rt: &HostRuntime, issues: &[u16; 255]) -> u8 {
     let mut room = io::buffer();
     let n = put_issues(&mut room, issues);
-    if console::out::write(b"issues", &room[..n]) {
+    if console::out::write(rt, b"issues", &room[..n]) {
         return 0;
     }
     1

@@ -13,84 +13,83 @@ mod list;
 mod reading;
 
 use console::args::{Args, own, own_count, own_is};
-use libc::STDERR_FILENO;
 
 // How the program is called; the answer is the status.
-fn usage() -> u8 {
-    io::write_all(STDERR_FILENO, b"usage: issues [-i ISSUES] FILE\n");
+fn usage(rt: &HostRuntime) -> u8 {
+    console::say::complain(rt, b"usage: issues [-i ISSUES] FILE\n");
     2
 }
 
 // The file of a name, over the issues that stand before it; then the list is written. The answer is the status.
-fn hear_file(name: &[u8], issues: [u16; 255]) -> u8 {
+fn hear_file(rt: &HostRuntime, name: &[u8], issues: [u16; 255]) -> u8 {
     let mut after = issues;
-    if !reading::hear_named(name, &mut after) {
+    if !reading::hear_named(rt, name, &mut after) {
         return 1;
     }
-    list::write(&after)
+    list::write(rt, &after)
 }
 
 // The file of the program's own argument i, over the issues that stand before it.
-fn hear_arg(a: Args, i: usize, issues: [u16; 255]) -> u8 {
+fn hear_arg(rt: &HostRuntime, a: Args, i: usize, issues: [u16; 255]) -> u8 {
     let mut path = io::buffer();
-    let n = own(a, i, &mut path);
-    hear_file(&path[..n], issues)
+    let n = own(rt, a, i, &mut path).count;
+    hear_file(rt, &path[..n], issues)
 }
 
 // Whether the program's own argument i is an option: a minus sign and more.
-fn is_option(a: Args, i: usize) -> bool {
+fn is_option(rt: &HostRuntime, a: Args, i: usize) -> bool {
     let mut path = io::buffer();
-    let n = own(a, i, &mut path);
+    let n = own(rt, a, i, &mut path).count;
     console::words::is_option(&path[..n])
 }
 
 // FILE alone, the program's own argument 0.
-fn run_file(a: Args) -> u8 {
-    if is_option(a, 0) {
-        return usage();
+fn run_file(rt: &HostRuntime, a: Args) -> u8 {
+    if is_option(rt, a, 0) {
+        return usage(rt);
     }
-    if !inputs::files::is_readable(b"issues", a.first) {
+    if !inputs::files::is_readable(rt, b"issues", a.first) {
         return 1;
     }
-    hear_arg(a, 0, [65535u16; 255])
+    hear_arg(rt, a, 0, [65535u16; 255])
 }
 
 // ISSUES and FILE, the program's own arguments 1 and 2.
-fn run_both(a: Args) -> u8 {
+fn run_both(rt: &HostRuntime, a: Args) -> u8 {
     let i = a.first;
     if i > 3 {
-        return usage();
+        return usage(rt);
     }
-    if is_option(a, 1) | is_option(a, 2) {
-        return usage();
+    if is_option(rt, a, 1) | is_option(rt, a, 2) {
+        return usage(rt);
     }
-    if !inputs::issue_file::may_read_issues(b"issues", i + 1) {
+    if !inputs::issue_file::may_read_issues(rt, b"issues", i + 1) {
         return 1;
     }
-    if !inputs::files::is_readable(b"issues", i + 2) {
+    if !inputs::files::is_readable(rt, b"issues", i + 2) {
         return 1;
     }
     let mut issues = [65535u16; 255];
-    if !inputs::issue_file::read_issues(b"issues", i + 1, &mut issues) {
+    if !inputs::issue_file::read_issues(rt, b"issues", i + 1, &mut issues) {
         return 1;
     }
-    hear_arg(a, 2, issues)
+    hear_arg(rt, a, 2, issues)
 }
 
 // The program by its arguments; the status.
-fn run(a: Args) -> u8 {
+fn run(rt: &HostRuntime, a: Args) -> u8 {
     let count = own_count(a);
     if count == 1 {
-        return run_file(a);
+        return run_file(rt, a);
     }
-    if (count == 3) & own_is(a, 0, b"-i") {
-        return run_both(a);
+    if (count == 3) & own_is(rt, a, 0, b"-i") {
+        return run_both(rt, a);
     }
-    usage()
+    usage(rt)
 }
 
-fn main() {
-    let a = console::args::begin();
-    let status = run(a);
+fn main(rt: HostRuntime) {
+    let a = console::args::begin(&rt);
+    let status = run(&rt, a);
     console::args::end(a, status);
 }

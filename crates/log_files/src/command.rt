@@ -16,18 +16,19 @@ pub fn has_words(i: usize, count: usize) -> bool {
 }
 
 // Whether ISSUES, argument i of count, and the logs behind it may be read; where not, it has been said why.
-fn are_readable(program: &[u8], i: usize, count: usize) -> bool {
+fn are_readable(rt: &HostRuntime, program: &[u8], i: usize, count: usize) -> bool {
     if i >= count {
         return false;
     }
-    if !may_read_issues(program, i) {
+    if !may_read_issues(rt, program, i) {
         return false;
     }
-    inputs::files::all_readable(program, i + 1, count)
+    inputs::files::all_readable(rt, program, i + 1, count)
 }
 
 // The logs from argument i on go through the table, over the issues that stand before them.
 fn take_logs(
+    rt: &HostRuntime,
     program: &[u8],
     i: usize,
     count: usize,
@@ -40,6 +41,7 @@ fn take_logs(
 ) -> Heard {
     if how.mixed {
         return crate::mixed::take_logs(
+            rt,
             program,
             i,
             count,
@@ -50,7 +52,7 @@ fn take_logs(
             refused,
         );
     }
-    let taken = crate::plain::take_logs(program, i, count, a, how, table, tally, refused);
+    let taken = crate::plain::take_logs(rt, program, i, count, a, how, table, tally, refused);
     let accounts = taken.accounts;
     of_frames(issues, accounts, taken.good)
 }
@@ -64,6 +66,7 @@ fn nothing() -> Heard {
 
 // The issues of argument i, then the logs behind it.
 fn take_files(
+    rt: &HostRuntime,
     program: &[u8],
     i: usize,
     count: usize,
@@ -77,15 +80,27 @@ fn take_files(
     if i >= count {
         return nothing();
     }
-    if !read_issues(program, i, &mut issues) {
+    if !read_issues(rt, program, i, &mut issues) {
         return nothing();
     }
-    take_logs(program, i + 1, count, issues, a, how, table, tally, refused)
+    take_logs(
+        rt,
+        program,
+        i + 1,
+        count,
+        issues,
+        a,
+        how,
+        table,
+        tally,
+        refused,
+    )
 }
 
 // PRN, ISSUES and the logs are the arguments from i on, of count, and all three are there; the table, the tally and the counts are zeros. State 2 where
 // something could not be read or written, and it has been said what.
 pub fn take_night(
+    rt: &HostRuntime,
     program: &[u8],
     i: usize,
     count: usize,
@@ -97,12 +112,12 @@ pub fn take_night(
     if i >= count {
         return nothing();
     }
-    let a = open_for(program, i, how.several, table);
+    let a = open_for(rt, program, i, how.several, table);
     if a.count == 0 {
         return nothing();
     }
-    if !are_readable(program, i + 1, count) {
+    if !are_readable(rt, program, i + 1, count) {
         return nothing();
     }
-    take_files(program, i + 1, count, a, how, table, tally, refused)
+    take_files(rt, program, i + 1, count, a, how, table, tally, refused)
 }

@@ -3,7 +3,6 @@ ghost use Rattle.io.specs.Counts.{IsPrefixLen};
 
 use crate::accounts::{Accounts, REFUSED, owner_of, refuse};
 use console::put::{put_byte, put_detail, put_text};
-use libc::STDERR_FILENO;
 use table_form::TABLE_SIZE;
 use tally::TALLY_SIZE;
 use verdict::{Verdict, number_of};
@@ -40,37 +39,45 @@ fn put_outcome(room: &mut [u8], at: usize, v: Verdict, kind: u8) -> usize
 }
 
 // The line of a frame; false where it cannot be written.
-fn write_frame(program: &[u8], number: u64, v: Verdict, kind: u8) -> bool {
+fn write_frame(rt: &HostRuntime, program: &[u8], number: u64, v: Verdict, kind: u8) -> bool {
     let mut room = [0u8; 80];
     let numbers = [number];
     let a = put_text(&mut room, 0, b"frame #", &numbers);
     let b = put_outcome(&mut room, a, v, kind);
     let n = put_byte(&mut room, b, 10);
-    console::out::write(program, &room[..n])
+    console::out::write(rt, program, &room[..n])
 }
 
 // A line on standard error every 100,000 frames, so that a long night is seen to go on.
-fn progress(number: u64, quiet: bool) {
+fn progress(rt: &HostRuntime, number: u64, quiet: bool) {
     if quiet | (number % 100000 != 0) {
         return;
     }
     let mut room = [0u8; 80];
     let numbers = [number];
     let n = put_text(&mut room, 0, b"... # frames\n", &numbers);
-    io::write_all(STDERR_FILENO, &room[..n]);
+    console::say::complain(rt, &room[..n]);
 }
 
 // The line of a frame, if that is asked for; false where it cannot be written.
-fn say_frame(program: &[u8], frame: &[u8], v: Verdict, how: How, number: u64) -> bool {
-    progress(number, how.quiet);
+fn say_frame(
+    rt: &HostRuntime,
+    program: &[u8],
+    frame: &[u8],
+    v: Verdict,
+    how: How,
+    number: u64,
+) -> bool {
+    progress(rt, number, how.quiet);
     if !how.each {
         return true;
     }
-    write_frame(program, number, v, contents::read::kind_of(frame, 28))
+    write_frame(rt, program, number, v, contents::read::kind_of(frame, 28))
 }
 
 // A frame that the table answered is counted, its refusal in the tally and for its PRN, and has its line.
 pub(crate) fn count_frame(
+    rt: &HostRuntime,
     program: &[u8],
     frame: &[u8],
     v: Verdict,
@@ -85,6 +92,6 @@ pub(crate) fn count_frame(
     tally::count(tally, n);
     refuse(refused, i, n);
     let accounts = crate::accounts::after(a, i, frame, n);
-    let good = say_frame(program, frame, v, how, accounts.all);
+    let good = say_frame(rt, program, frame, v, how, accounts.all);
     Outcome { accounts, good }
 }

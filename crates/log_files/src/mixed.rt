@@ -4,18 +4,21 @@ ghost use Rattle.console.specs.Lines.{Inside};
 use crate::accounts::REFUSED;
 use crate::frames::{How, count_frame};
 use crate::heard::{Heard, with_bad, with_cnav1, with_d1, with_frame, with_line, with_state};
+use console::args::argument;
+use console::input::Input;
 use console::lines::{Lines, Step, next_line, past_long};
 use console::put::{put_bytes, put_text};
-use inputs::files::{close_named, open_named};
+use inputs::files::open_named;
 use inputs::hex::bytes_into;
 use inputs::records::{CNAV1, D1, FRAME, NOTHING, record_of};
-use libc::STDERR_FILENO;
+use std::io::Error;
 use table_form::TABLE_SIZE;
 use tally::TALLY_SIZE;
 use verdict::number_of;
 
 // A frame goes to the ledger of its PRN.
 fn take_frame(
+    rt: &HostRuntime,
     program: &[u8],
     frame: &[u8],
     h: Heard,
@@ -26,7 +29,7 @@ fn take_frame(
 ) -> Heard {
     let v = table::take(table, frame);
     let a = h.accounts;
-    let o = count_frame(program, frame, v, a, how, table, tally, refused);
+    let o = count_frame(rt, program, frame, v, a, how, table, tally, refused);
     let accounts = o.accounts;
     with_frame(h, accounts, o.good)
 }
@@ -47,6 +50,7 @@ fn read_d1(s: &[u8], h: Heard) -> Heard {
 
 // The bytes of a record of a kind.
 fn take_bytes(
+    rt: &HostRuntime,
     program: &[u8],
     kind: u8,
     prn: u8,
@@ -58,7 +62,7 @@ fn take_bytes(
     refused: &mut [u64; REFUSED],
 ) -> Heard {
     if kind == FRAME {
-        return take_frame(program, s, h, how, table, tally, refused);
+        return take_frame(rt, program, s, h, how, table, tally, refused);
     }
     if kind == CNAV1 {
         return hear(prn, s, h);
@@ -68,6 +72,7 @@ fn take_bytes(
 
 // The digits of a record of a kind.
 fn take_digits(
+    rt: &HostRuntime,
     program: &[u8],
     kind: u8,
     prn: u8,
@@ -81,6 +86,7 @@ fn take_digits(
     let mut bytes = [0u8; 32768];
     let n = bytes_into(digits, &mut bytes);
     take_bytes(
+        rt,
         program,
         kind,
         prn,
@@ -94,7 +100,7 @@ fn take_digits(
 }
 
 // A line on standard error for the first bad line of all.
-fn say_bad(name: &[u8], number: u64, quiet: bool, before: u64) {
+fn say_bad(rt: &HostRuntime, name: &[u8], number: u64, quiet: bool, before: u64) {
     if quiet | (before != 0) {
         return;
     }
@@ -103,17 +109,18 @@ fn say_bad(name: &[u8], number: u64, quiet: bool, before: u64) {
     let a = put_bytes(&mut room, 0, b"... ");
     let b = put_bytes(&mut room, a, name);
     let n = put_text(&mut room, b, b": line #: not a record\n", &numbers);
-    io::write_all(STDERR_FILENO, &room[..n]);
+    console::say::complain(rt, &room[..n]);
 }
 
 // A bad line costs itself alone.
-fn take_bad(name: &[u8], number: u64, h: Heard, how: How) -> Heard {
-    say_bad(name, number, how.quiet, h.bad);
+fn take_bad(rt: &HostRuntime, name: &[u8], number: u64, h: Heard, how: How) -> Heard {
+    say_bad(rt, name, number, how.quiet, h.bad);
     with_bad(h)
 }
 
 // A line.
 fn take_line(
+    rt: &HostRuntime,
     program: &[u8],
     name: &[u8],
     number: u64,
@@ -132,9 +139,10 @@ fn take_line(
     }
     let g = with_line(h);
     if r.kind > D1 {
-        return take_bad(name, number, g, how);
+        return take_bad(rt, name, number, g, how);
     }
     take_digits(
+        rt,
         program,
         r.kind,
         r.prn,
@@ -148,13 +156,14 @@ fn take_line(
 }
 
 // A log cannot be read on.
-fn fail(program: &[u8], name: &[u8], h: Heard) -> Heard {
-    console::say::say_errno(program, name);
+fn fail(rt: &HostRuntime, program: &[u8], name: &[u8], h: Heard, e: Error) -> Heard {
+    console::say::say_errno(rt, program, name, e);
     with_state(h, 2)
 }
 
 // A step of the reading.
 fn turn(
+    rt: &HostRuntime,
     program: &[u8],
     name: &[u8],
     room: &[u8],
@@ -172,9 +181,10 @@ fn turn(
     let step = l.step;
     match step {
         Step::End => with_state(h, 1),
-        Step::Failed => fail(program, name, h),
-        Step::Long => take_bad(name, l.number, with_line(h), how),
+        Step::Failed(e) => fail(rt, program, name, h, e),
+        Step::Long => take_bad(rt, name, l.number, with_line(h), how),
         Step::Line => take_line(
+            rt,
             program,
             name,
             l.number,
@@ -189,17 +199,18 @@ fn turn(
 }
 
 // The next line, also after one that was too long.
-fn line_after(fd: i32, room: &mut [u8], l: Lines) -> Lines
+fn line_after(input: &mut Input, room: &mut [u8], l: Lines) -> Lines
     ensures { Inside result room.new }
 {
-    let p = past_long(fd, room, l);
-    next_line(fd, room, p)
+    let p = past_long(input, room, l);
+    next_line(input, room, p)
 }
 
 // All lines of a log.
 fn all_lines(
+    rt: &HostRuntime,
     program: &[u8],
-    fd: i32,
+    input: &mut Input,
     name: &[u8],
     room: &mut [u8],
     first: Heard,
@@ -213,9 +224,9 @@ fn all_lines(
     let mut state: u8 = 0;
     let mut left = u64::MAX;
     while left > 0 && state == 0 {
-        let next = line_after(fd, room, l);
+        let next = line_after(input, room, l);
         l = next;
-        let after = turn(program, name, room, next, h, how, table, tally, refused);
+        let after = turn(rt, program, name, room, next, h, how, table, tally, refused);
         h = after;
         state = after.state;
         left -= 1;
@@ -225,6 +236,7 @@ fn all_lines(
 
 // The log of a name.
 fn take_named(
+    rt: &HostRuntime,
     program: &[u8],
     name: &[u8],
     h: Heard,
@@ -233,18 +245,18 @@ fn take_named(
     tally: &mut [u8; TALLY_SIZE],
     refused: &mut [u64; REFUSED],
 ) -> Heard {
-    let fd = open_named(program, name);
-    if fd < 0 {
+    let Some(mut input) = open_named(rt, program, name) else {
         return with_state(h, 2);
-    }
+    };
     let mut room = console::lines::line_room();
-    let r = all_lines(program, fd, name, &mut room, h, how, table, tally, refused);
-    close_named(fd);
-    r
+    all_lines(
+        rt, program, &mut input, name, &mut room, h, how, table, tally, refused,
+    )
 }
 
 // The log of argument i.
 fn take_log(
+    rt: &HostRuntime,
     program: &[u8],
     i: usize,
     h: Heard,
@@ -254,8 +266,9 @@ fn take_log(
     refused: &mut [u64; REFUSED],
 ) -> Heard {
     let mut path = io::buffer();
-    let n = os::arg(i, &mut path);
+    let n = argument(rt, i, &mut path).count;
     take_named(
+        rt,
         program,
         &path[..n],
         with_state(h, 0),
@@ -268,6 +281,7 @@ fn take_log(
 
 // The logs from argument i on, of count, in order, over a broadcast list. The end of a log ends its last line.
 pub fn take_logs(
+    rt: &HostRuntime,
     program: &[u8],
     i: usize,
     count: usize,
@@ -281,7 +295,7 @@ pub fn take_logs(
     let mut state: u8 = 1;
     let mut k = i;
     while k < count && state == 1 {
-        let after = take_log(program, k, h, how, table, tally, refused);
+        let after = take_log(rt, program, k, h, how, table, tally, refused);
         h = after;
         state = after.state;
         k += 1;

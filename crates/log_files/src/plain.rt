@@ -2,6 +2,7 @@
 use crate::accounts::{Accounts, REFUSED};
 use crate::frames::{How, Outcome, count_frame};
 use crate::stream::{Stream, filled};
+use console::input::Input;
 use console::put::cursor_in;
 use inputs::ends::least;
 use table_form::TABLE_SIZE;
@@ -24,6 +25,7 @@ struct After {
 
 // The next piece of what is left goes to the ledger of its PRN.
 fn take_piece(
+    rt: &HostRuntime,
     program: &[u8],
     left: &[u8],
     a: Accounts,
@@ -35,7 +37,7 @@ fn take_piece(
     let step = table_log::take_next(table, left);
     let v = step.verdict;
     let n = cursor_in(left, step.length as usize);
-    let outcome = count_frame(program, &left[..n], v, a, how, table, tally, refused);
+    let outcome = count_frame(rt, program, &left[..n], v, a, how, table, tally, refused);
     Taken { length: n, outcome }
 }
 
@@ -79,6 +81,7 @@ fn after_piece(s: Stream, from: usize, to: usize, t: Taken) -> After {
 
 // A turn: the next piece of the stream, of which enough stands in the room.
 fn turn(
+    rt: &HostRuntime,
     program: &[u8],
     s: Stream,
     room: &[u8],
@@ -96,14 +99,16 @@ fn turn(
     if from == to {
         return stopped(s, a, 1);
     }
-    let t = take_piece(program, &room[from..to], a, how, table, tally, refused);
+    let t = take_piece(rt, program, &room[from..to], a, how, table, tally, refused);
     after_piece(s, from, to, t)
 }
 
 // All pieces of a stream.
 fn all_pieces(
+    rt: &HostRuntime,
     program: &[u8],
     s: Stream,
+    log: &mut Option<Input>,
     room: &mut [u8],
     first: Accounts,
     how: How,
@@ -116,8 +121,8 @@ fn all_pieces(
     let mut state: u8 = 0;
     let mut left: u64 = 100000000000000000;
     while left > 0 && state == 0 {
-        let f = filled(program, r, room);
-        let t = turn(program, f, room, a, how, table, tally, refused);
+        let f = filled(rt, program, r, log, room);
+        let t = turn(rt, program, f, room, a, how, table, tally, refused);
         r = t.stream;
         a = t.accounts;
         state = t.state;
@@ -131,6 +136,7 @@ fn all_pieces(
 
 // The logs from argument i on, of count, in order.
 pub fn take_logs(
+    rt: &HostRuntime,
     program: &[u8],
     i: usize,
     count: usize,
@@ -141,9 +147,12 @@ pub fn take_logs(
     refused: &mut [u64; REFUSED],
 ) -> Outcome {
     let mut room = io::large_buffer();
+    let mut log = None;
     all_pieces(
+        rt,
         program,
         crate::stream::begin(i, count),
+        &mut log,
         &mut room,
         first,
         how,

@@ -54,15 +54,16 @@ fn word_end(s: &[u8], at: usize, several: bool) -> usize
 }
 
 // No ledger is opened for a word of the argument, for which the table answered a number.
-fn say_prn(program: &[u8], s: &[u8], word: &[u8], number: u8) {
+fn say_prn(rt: &HostRuntime, program: &[u8], s: &[u8], word: &[u8], number: u8) {
     if word.len() == 0 {
-        say_file(program, s, b"a PRN is missing");
+        say_file(rt, program, s, b"a PRN is missing");
         return;
     }
     match number {
-        28 => say_file(program, word, b"this PRN is given twice"),
-        29 => say_file(program, s, b"more than four PRNs"),
+        28 => say_file(rt, program, word, b"this PRN is given twice"),
+        29 => say_file(rt, program, s, b"more than four PRNs"),
         _ => say_file(
+            rt,
             program,
             word,
             b"no ledger is made for this PRN, only for 1 to 5 and 59 to 63",
@@ -99,6 +100,7 @@ fn opened(r: Reading, prn: u8, to: usize, length: usize) -> Reading {
 
 // A ledger is opened for the next word; where there is none for it, it has been said so.
 fn next_word(
+    rt: &HostRuntime,
     program: &[u8],
     s: &[u8],
     several: bool,
@@ -110,14 +112,20 @@ fn next_word(
     let prn = prn_in(&s[from..to]);
     let number = verdict::number_of(table::open(table, prn));
     if number != 0 {
-        say_prn(program, s, &s[from..to], number);
+        say_prn(rt, program, s, &s[from..to], number);
         return wrong(r);
     }
     opened(r, prn, to, s.len())
 }
 
 // A ledger is opened for each word; a fifth has no room.
-fn open_words(program: &[u8], s: &[u8], several: bool, table: &mut [u8; TABLE_SIZE]) -> Accounts {
+fn open_words(
+    rt: &HostRuntime,
+    program: &[u8],
+    s: &[u8],
+    several: bool,
+    table: &mut [u8; TABLE_SIZE],
+) -> Accounts {
     let mut r = Reading {
         at: 0,
         more: true,
@@ -126,7 +134,7 @@ fn open_words(program: &[u8], s: &[u8], several: bool, table: &mut [u8; TABLE_SI
     let mut more = true;
     let mut left: u8 = 5;
     while left > 0 && more {
-        let next = next_word(program, s, several, r, table);
+        let next = next_word(rt, program, s, several, r, table);
         r = next;
         more = next.more;
         left -= 1;
@@ -136,12 +144,13 @@ fn open_words(program: &[u8], s: &[u8], several: bool, table: &mut [u8; TABLE_SI
 
 // Ledgers are opened for the PRNs of argument i, in an empty table; no PRN where something is wrong, and it has been said what.
 pub(crate) fn open_for(
+    rt: &HostRuntime,
     program: &[u8],
     i: usize,
     several: bool,
     table: &mut [u8; TABLE_SIZE],
 ) -> Accounts {
     let mut room = io::buffer();
-    let n = os::arg(i, &mut room);
-    open_words(program, &room[..n], several, table)
+    let n = console::args::argument(rt, i, &mut room).count;
+    open_words(rt, program, &room[..n], several, table)
 }

@@ -1,17 +1,18 @@
 // The logs named on the command line, read as one stream: a frame may begin in one and end in the next.
 ghost use Rattle.io.specs.Counts.{IsPrefixLen};
 
-use console::input::read_on;
+use console::args::argument;
+use console::input::{Input, read_on};
 use inputs::ends::least;
-use inputs::files::{close_named, open_named};
+use inputs::files::open_named;
 
-// What was read and is not yet taken is room[from..to]. The open log has the descriptor fd, negative where none is open, and so many of its
-// bytes were read; the log that comes next is argument next of count.
+// What was read and is not yet taken is room[from..to]. A log stands beside the stream while it is open, and so many of its bytes were
+// read; the log that comes next is argument next of count.
 #[derive(Clone, Copy)]
 pub(crate) struct Stream {
     pub from: usize,
     pub to: usize,
-    pub fd: i32,
+    pub open: bool,
     pub read: u64,
     pub next: usize,
     pub count: usize,
@@ -27,7 +28,7 @@ pub(crate) fn begin(i: usize, count: usize) -> Stream {
     Stream {
         from: 0,
         to: 0,
-        fd: -1,
+        open: false,
         read: 0,
         next: i,
         count,
@@ -44,7 +45,7 @@ fn broken(s: Stream) -> Stream {
 }
 
 // The next log is opened, or the stream ends.
-fn opened(program: &[u8], s: Stream) -> Stream {
+fn opened(rt: &HostRuntime, program: &[u8], s: Stream, log: &mut Option<Input>) -> Stream {
     let i = s.next;
     if i >= s.count {
         let mut r = s;
@@ -52,27 +53,27 @@ fn opened(program: &[u8], s: Stream) -> Stream {
         return r;
     }
     let mut path = io::buffer();
-    let n = os::arg(i, &mut path);
-    let fd = open_named(program, &path[..n]);
-    if fd < 0 {
+    let n = argument(rt, i, &mut path).count;
+    *log = open_named(rt, program, &path[..n]);
+    if log.is_none() {
         return broken(s);
     }
     let mut r = s;
-    r.fd = fd;
+    r.open = true;
     r.read = 0;
     r.next = i + 1;
     r
 }
 
 // The name of the open log, put into a room; the answer is its length.
-fn name_into(s: Stream, room: &mut [u8]) -> usize
+fn name_into(rt: &HostRuntime, s: Stream, room: &mut [u8]) -> usize
     ensures { IsPrefixLen result room.new }
 {
     let i = s.next;
     if i == 0 {
         return 0;
     }
-    os::arg(i - 1, room)
+    argument(rt, i - 1, room).count
 }
 
 // So many bytes more were read.
@@ -85,30 +86,47 @@ fn longer(s: Stream, to: usize) -> Stream {
     r
 }
 
-// More of the open log is read into the room behind what stands there; at its end it is closed.
-fn read_more(program: &[u8], s: Stream, room: &mut [u8]) -> Stream {
+// More of the open log is read into the room behind what stands there, up to its end.
+fn read_more(
+    rt: &HostRuntime,
+    program: &[u8],
+    s: Stream,
+    input: &mut Input,
+    room: &mut [u8],
+) -> Stream {
     let mut path = io::buffer();
-    let n = name_into(s, &mut path);
-    let p = read_on(s.fd, room, s.to);
-    if p.failed {
-        console::say::say_errno_where(program, &path[..n], b"offset", s.read);
+    let n = name_into(rt, s, &mut path);
+    let p = read_on(input, room, s.to);
+    if let Some(e) = p.error {
+        console::say::say_errno_where(rt, program, &path[..n], b"offset", s.read, e);
         return broken(s);
     }
     if p.count <= s.to {
-        close_named(s.fd);
         let mut r = s;
-        r.fd = -1;
+        r.open = false;
         return r;
     }
     longer(s, p.count)
 }
 
-// One step: a log is opened, or read on.
-fn step(program: &[u8], s: Stream, room: &mut [u8]) -> Stream {
-    if s.fd < 0 {
-        return opened(program, s);
+// One step: a log is opened, or read on; at its end it is closed.
+fn step(
+    rt: &HostRuntime,
+    program: &[u8],
+    s: Stream,
+    log: &mut Option<Input>,
+    room: &mut [u8],
+) -> Stream {
+    match log {
+        None => opened(rt, program, s, log),
+        Some(input) => {
+            let r = read_more(rt, program, s, input, room);
+            if !r.open {
+                *log = None;
+            }
+            r
+        }
     }
-    read_more(program, s, room)
 }
 
 // What is not yet taken is moved to the room's start.
@@ -133,12 +151,18 @@ fn wants(s: Stream) -> bool {
 }
 
 // The stream is read on until there is enough of it.
-fn read_on_enough(program: &[u8], s: Stream, room: &mut [u8]) -> Stream {
+fn read_on_enough(
+    rt: &HostRuntime,
+    program: &[u8],
+    s: Stream,
+    log: &mut Option<Input>,
+    room: &mut [u8],
+) -> Stream {
     let mut r = s;
     let mut more = wants(s);
     let mut left: u64 = 100000000000000000;
     while left > 0 && more {
-        let next = step(program, r, room);
+        let next = step(rt, program, r, log, room);
         r = next;
         more = wants(next);
         left -= 1;
@@ -147,11 +171,17 @@ fn read_on_enough(program: &[u8], s: Stream, room: &mut [u8]) -> Stream {
 }
 
 // The stream with enough in the room to tell where the next piece ends, or all that is left.
-pub(crate) fn filled(program: &[u8], s: Stream, room: &mut [u8]) -> Stream {
+pub(crate) fn filled(
+    rt: &HostRuntime,
+    program: &[u8],
+    s: Stream,
+    log: &mut Option<Input>,
+    room: &mut [u8],
+) -> Stream {
     if s.to >= ENOUGH {
         if s.from <= s.to - ENOUGH {
             return s;
         }
     }
-    read_on_enough(program, moved(s, room), room)
+    read_on_enough(rt, program, moved(s, room), log, room)
 }

@@ -28,7 +28,6 @@ mod limits;
 mod options;
 mod report;
 
-use libc::STDERR_FILENO;
 use log_files::accounts::REFUSED;
 use log_files::command::{has_words, take_night};
 use log_files::frames::How;
@@ -42,6 +41,7 @@ const ROOM: usize = 131072;
 
 // All that is written, in one piece. The answer is the status.
 fn write(
+    rt: &HostRuntime,
     table: &[u8; TABLE_SIZE],
     tally: &[u8; TALLY_SIZE],
     refused: &[u64; REFUSED],
@@ -52,14 +52,14 @@ fn write(
     let a = before::put_before(&mut room, tally, heard, o);
     let b = report::put_reports(&mut room, a, table, refused, heard, o);
     let n = csv::put_csv(&mut room, b, table, heard, o.csv);
-    if !console::out::write(b"night", &room[..n]) {
+    if !console::out::write(rt, b"night", &room[..n]) {
         return 1;
     }
-    limits::status_of(table, heard, o)
+    limits::status_of(rt, table, heard, o)
 }
 
 // The logs go through a table, with PRN as argument i of count; then it is written what became of them. The answer is the status.
-fn run(i: usize, count: usize, o: Options) -> u8 {
+fn run(rt: &HostRuntime, i: usize, count: usize, o: Options) -> u8 {
     let how = How {
         several: true,
         mixed: o.mixed,
@@ -70,6 +70,7 @@ fn run(i: usize, count: usize, o: Options) -> u8 {
     let mut tally = [0u8; TALLY_SIZE];
     let mut refused = [0u64; REFUSED];
     let heard = take_night(
+        rt,
         b"night",
         i,
         count,
@@ -81,33 +82,33 @@ fn run(i: usize, count: usize, o: Options) -> u8 {
     if heard.state == 2 {
         return 1;
     }
-    write(&table, &tally, &refused, heard, o)
+    write(rt, &table, &tally, &refused, heard, o)
 }
 
 // How the program is called; the answer is the status.
-fn say_usage() -> u8 {
-    io::write_all(
-        STDERR_FILENO,
+fn say_usage(rt: &HostRuntime) -> u8 {
+    console::say::complain(
+        rt,
         b"usage: night [-e] [-m] [--csv] [--quiet] [--min-rows N] [--max-refused PERCENT] [--max-age SECONDS] [--max-gap SECONDS] PRN[,PRN..] ISSUES LOG..\n",
     );
     2
 }
 
 // The program from its options on; the answer is the status.
-fn status_of(first: usize, count: usize) -> u8 {
-    let o = options::options_from(first, count);
+fn status_of(rt: &HostRuntime, first: usize, count: usize) -> u8 {
+    let o = options::options_from(rt, first, count);
     if o.wrong {
         return 2;
     }
     let i = o.at;
     if !has_words(i, count) {
-        return say_usage();
+        return say_usage(rt);
     }
-    run(i, count, o)
+    run(rt, i, count, o)
 }
 
-fn main() {
-    let a = console::args::begin();
-    let status = status_of(a.first, a.count);
+fn main(rt: HostRuntime) {
+    let a = console::args::begin(&rt);
+    let status = status_of(&rt, a.first, a.count);
     console::args::end(a, status);
 }

@@ -1,4 +1,5 @@
 // The options in front of PRN.
+use console::args::argument;
 use console::words::Number;
 use inputs::files::{is_arg, is_option};
 
@@ -23,59 +24,59 @@ pub(crate) struct Options {
 pub(crate) const NONE: u32 = u32::MAX;
 
 // The number that argument i says.
-fn number_arg(i: usize) -> Number {
+fn number_arg(rt: &HostRuntime, i: usize) -> Number {
     let mut room = io::buffer();
-    let n = os::arg(i, &mut room);
+    let n = argument(rt, i, &mut room).count;
     console::words::number_of(&room[..n])
 }
 
 // Which option argument i is: 1 to 4 stand alone, 5 to 8 have a number behind them, 9 is none of ours, 0 is no option.
-fn option_of(i: usize) -> u8 {
-    if !is_option(i) {
+fn option_of(rt: &HostRuntime, i: usize) -> u8 {
+    if !is_option(rt, i) {
         return 0;
     }
-    if is_arg(i, b"-e") {
+    if is_arg(rt, i, b"-e") {
         return 1;
     }
-    if is_arg(i, b"--csv") {
+    if is_arg(rt, i, b"--csv") {
         return 2;
     }
-    if is_arg(i, b"--quiet") {
+    if is_arg(rt, i, b"--quiet") {
         return 3;
     }
-    if is_arg(i, b"-m") {
+    if is_arg(rt, i, b"-m") {
         return 4;
     }
-    limit_of(i)
+    limit_of(rt, i)
 }
 
 // Which option with a number behind it argument i is.
-fn limit_of(i: usize) -> u8 {
-    if is_arg(i, b"--min-rows") {
+fn limit_of(rt: &HostRuntime, i: usize) -> u8 {
+    if is_arg(rt, i, b"--min-rows") {
         return 5;
     }
-    if is_arg(i, b"--max-refused") {
+    if is_arg(rt, i, b"--max-refused") {
         return 6;
     }
-    if is_arg(i, b"--max-age") {
+    if is_arg(rt, i, b"--max-age") {
         return 7;
     }
-    if is_arg(i, b"--max-gap") {
+    if is_arg(rt, i, b"--max-gap") {
         return 8;
     }
     9
 }
 
 // What is wrong with argument i.
-fn say_arg(i: usize, what: &[u8]) {
+fn say_arg(rt: &HostRuntime, i: usize, what: &[u8]) {
     let mut room = io::buffer();
-    let n = os::arg(i, &mut room);
-    console::say::say_file(b"night", &room[..n], what);
+    let n = argument(rt, i, &mut room).count;
+    console::say::say_file(rt, b"night", &room[..n], what);
 }
 
 // The options, and something is wrong with argument i.
-fn faulty(o: Options, i: usize, what: &[u8]) -> Options {
-    say_arg(i, what);
+fn faulty(rt: &HostRuntime, o: Options, i: usize, what: &[u8]) -> Options {
+    say_arg(rt, i, what);
     let mut r = o;
     r.wrong = true;
     r.more = false;
@@ -107,16 +108,16 @@ fn with_limit(o: Options, which: u8, x: u32) -> Options {
 }
 
 // The options with the limit whose number is argument i + 1.
-fn with_number(o: Options, which: u8, i: usize, count: usize) -> Options {
+fn with_number(rt: &HostRuntime, o: Options, which: u8, i: usize, count: usize) -> Options {
     if i >= count {
         return o;
     }
-    let v = number_arg(i + 1);
+    let v = number_arg(rt, i + 1);
     let Number::Value(x) = v else {
-        return faulty(o, i, b"expected a number after it");
+        return faulty(rt, o, i, b"expected a number after it");
     };
     if (which == 6) & (x > 100) {
-        return faulty(o, i, b"expected 0 to 100 percent after it");
+        return faulty(rt, o, i, b"expected 0 to 100 percent after it");
     }
     with_limit(o, which, x)
 }
@@ -129,22 +130,27 @@ fn on_to(o: Options, i: usize) -> Options {
 }
 
 // The options with argument o.at of count, or their end.
-fn next_option(o: Options, count: usize) -> Options {
+fn next_option(rt: &HostRuntime, o: Options, count: usize) -> Options {
     let i = o.at;
     if i >= count {
         return ended(o);
     }
-    let which = option_of(i);
+    let which = option_of(rt, i);
     if which == 0 {
         return ended(o);
     }
     if which == 9 {
-        return faulty(o, i, b"no such option; night alone says how it is called");
+        return faulty(
+            rt,
+            o,
+            i,
+            b"no such option; night alone says how it is called",
+        );
     }
     if which <= 4 {
         return on_to(with_word(o, which), i + 1);
     }
-    let r = with_number(o, which, i, count);
+    let r = with_number(rt, o, which, i, count);
     if i + 1 < count {
         return on_to(r, i + 2);
     }
@@ -176,12 +182,13 @@ fn no_options(first: usize) -> Options {
 }
 
 // The options, unless two of them contradict.
-fn agreeing(o: Options) -> Options {
+fn agreeing(rt: &HostRuntime, o: Options) -> Options {
     if o.wrong {
         return o;
     }
     if o.each & o.csv {
         console::say::say_file(
+            rt,
             b"night",
             b"--csv",
             b"prints the table alone, so not with -e",
@@ -194,15 +201,15 @@ fn agreeing(o: Options) -> Options {
 }
 
 // The options from argument first on, of count.
-pub(crate) fn options_from(first: usize, count: usize) -> Options {
+pub(crate) fn options_from(rt: &HostRuntime, first: usize, count: usize) -> Options {
     let mut o = no_options(first);
     let mut more = true;
     let mut left: u32 = 10000;
     while left > 0 && more {
-        let next = next_option(o, count);
+        let next = next_option(rt, o, count);
         o = next;
         more = next.more;
         left -= 1;
     }
-    agreeing(o)
+    agreeing(rt, o)
 }

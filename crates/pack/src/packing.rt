@@ -7,11 +7,11 @@ use contents::parts::Contents;
 use verdict::number_of;
 
 // A message or a frame goes to standard output, in a pass that writes.
-fn write_bytes(p: Pass, bytes: &[u8]) -> u8 {
+fn write_bytes(rt: &HostRuntime, p: Pass, bytes: &[u8]) -> u8 {
     if !p.writes {
         return WRITTEN;
     }
-    if console::out::write(b"pack", bytes) {
+    if console::out::write(rt, b"pack", bytes) {
         return WRITTEN;
     }
     WRONG
@@ -19,54 +19,61 @@ fn write_bytes(p: Pass, bytes: &[u8]) -> u8 {
 
 // The frame of a message, with all flags 0, is written, or refused. Contents that were refused (8 and above) have left a message of zeros, for which
 // a frame can be made: so a PRN that is refused (4) comes first, and the lowest number is given.
-fn write_frame(name: &[u8], p: Pass, message: &[u8], prn: u8, refused: u8) -> u8 {
+fn write_frame(rt: &HostRuntime, name: &[u8], p: Pass, message: &[u8], prn: u8, refused: u8) -> u8 {
     let mut room = [0u8; 125];
     let v = making::make(message, prn, 0, &mut room);
     let made = number_of(v);
     let n = if made != 0 { made } else { refused };
     if n != 0 {
-        return say_refused(name, p, true, n);
+        return say_refused(rt, name, p, true, n);
     }
-    write_bytes(p, &room)
+    write_bytes(rt, p, &room)
 }
 
 // Contents are written, as a message or as a frame of a PRN, or refused.
-fn write_contents(name: &[u8], p: Pass, frames: bool, prn: u8, c: Contents) -> u8 {
+fn write_contents(
+    rt: &HostRuntime,
+    name: &[u8],
+    p: Pass,
+    frames: bool,
+    prn: u8,
+    c: Contents,
+) -> u8 {
     let mut room = [0u8; 61];
     let v = writing::write(&mut room, c);
     let n = number_of(v);
     if frames {
-        return write_frame(name, p, &room, prn, n);
+        return write_frame(rt, name, p, &room, prn, n);
     }
     if n != 0 {
-        return say_refused(name, p, false, n);
+        return say_refused(rt, name, p, false, n);
     }
-    write_bytes(p, &room)
+    write_bytes(rt, p, &room)
 }
 
 // A line that is neither blank nor a comment.
-fn pack_message(name: &[u8], p: Pass, frames: bool, s: &[u8]) -> u8 {
+fn pack_message(rt: &HostRuntime, name: &[u8], p: Pass, frames: bool, s: &[u8]) -> u8 {
     let g = read_prn(s, frames);
     let from = g.cursor;
     let l = read_message(s, from);
     let c = l.cursor;
     if c.fault != 0 {
-        return say_malformed(name, p, frames, s, c);
+        return say_malformed(rt, name, p, frames, s, c);
     }
     let contents = l.contents;
-    write_contents(name, p, frames, byte_of(g.value), contents)
+    write_contents(rt, name, p, frames, byte_of(g.value), contents)
 }
 
 // A line without a byte order mark.
-fn pack_text(name: &[u8], p: Pass, frames: bool, s: &[u8]) -> u8 {
+fn pack_text(rt: &HostRuntime, name: &[u8], p: Pass, frames: bool, s: &[u8]) -> u8 {
     if console::words::is_remark(s) {
         return NOTHING;
     }
-    pack_message(name, p, frames, s)
+    pack_message(rt, name, p, frames, s)
 }
 
 // A line.
-pub(crate) fn pack_line(name: &[u8], p: Pass, frames: bool, s: &[u8]) -> u8 {
+pub(crate) fn pack_line(rt: &HostRuntime, name: &[u8], p: Pass, frames: bool, s: &[u8]) -> u8 {
     let a = console::words::text_start(s, p.number);
-    pack_text(name, p, frames, &s[a..])
+    pack_text(rt, name, p, frames, &s[a..])
 }

@@ -58,22 +58,29 @@ fn status_of(c: Checked) -> u8 {
 }
 
 // A sheet is checked against a PRN's ledger and issues, and the answer goes to standard output; the answer here is the status.
-fn write_checked(sheet: &[u8], table: &[u8; TABLE_SIZE], prn: u8, issues: &[u16; 255]) -> u8 {
+fn write_checked(
+    rt: &HostRuntime,
+    sheet: &[u8],
+    table: &[u8; TABLE_SIZE],
+    prn: u8,
+    issues: &[u16; 255],
+) -> u8 {
     let mut room = [0u8; 80];
     let c = check_sheet(ledger_for(table, prn), issues, sheet);
     let n = put_checked(&mut room, c);
-    if console::out::write(b"sheet", &room[..n]) {
+    if console::out::write(rt, b"sheet", &room[..n]) {
         return status_of(c);
     }
     1
 }
 
 // A sheet, and PRN, ISSUES and the logs from argument i on, of count; the answer is the status.
-fn check(sheet: &[u8], i: usize, count: usize, mixed: bool) -> u8 {
+fn check(rt: &HostRuntime, sheet: &[u8], i: usize, count: usize, mixed: bool) -> u8 {
     let mut table = [0u8; TABLE_SIZE];
     let mut tally = [0u8; TALLY_SIZE];
     let mut refused = [0u64; REFUSED];
     let heard = take_night(
+        rt,
         b"sheet",
         i,
         count,
@@ -86,19 +93,19 @@ fn check(sheet: &[u8], i: usize, count: usize, mixed: bool) -> u8 {
         return 1;
     }
     let issues = heard.issues;
-    write_checked(sheet, &table, prn_of(heard), &issues)
+    write_checked(rt, sheet, &table, prn_of(heard), &issues)
 }
 
 // FILE is argument i of count, PRN, ISSUES and the logs stand behind it; the answer is the status.
-pub(crate) fn run(i: usize, count: usize, mixed: bool) -> u8 {
+pub(crate) fn run(rt: &HostRuntime, i: usize, count: usize, mixed: bool) -> u8 {
     if i >= count {
         return 2;
     }
     let mut sheet = [0u8; ROOM];
-    let p = crate::file::read_arg(i, &mut sheet);
-    if p.failed {
+    let p = crate::file::read_arg(rt, i, &mut sheet);
+    let Some(length) = p else {
         return 1;
-    }
-    let n = cursor_in(&sheet, p.count);
-    check(&sheet[..n], i + 1, count, mixed)
+    };
+    let n = cursor_in(&sheet, length);
+    check(rt, &sheet[..n], i + 1, count, mixed)
 }

@@ -21,13 +21,12 @@ mod reading;
 mod writing;
 
 use inputs::files::{is_arg, is_option};
-use libc::STDERR_FILENO;
 use log_files::command::has_words;
 
 // How the program is called; the answer is the status.
-fn usage() -> u8 {
-    io::write_all(
-        STDERR_FILENO,
+fn usage(rt: &HostRuntime) -> u8 {
+    console::say::complain(
+        rt,
         b"usage: sheet write [-m] PRN ISSUES LOG.. | sheet read FILE | sheet check [-m] FILE PRN ISSUES LOG..\n",
     );
     2
@@ -42,57 +41,57 @@ fn behind_mixed(i: usize, mixed: bool) -> usize
 }
 
 // sheet write: what stands behind that, from argument i on.
-fn run_write(i: usize, count: usize) -> u8
+fn run_write(rt: &HostRuntime, i: usize, count: usize) -> u8
     requires { i ≤ 4 }
 {
-    let mixed = is_arg(i, b"-m");
+    let mixed = is_arg(rt, i, b"-m");
     let at = behind_mixed(i, mixed);
-    if is_option(at) | !has_words(at, count) {
-        return usage();
+    if is_option(rt, at) | !has_words(at, count) {
+        return usage(rt);
     }
-    writing::run(at, count, mixed)
+    writing::run(rt, at, count, mixed)
 }
 
 // sheet read: what stands behind that, from argument i on.
-fn run_read(i: usize, count: usize) -> u8
+fn run_read(rt: &HostRuntime, i: usize, count: usize) -> u8
     requires { i ≤ 4 }
 {
-    if is_option(i) | (count != i + 1) {
-        return usage();
+    if is_option(rt, i) | (count != i + 1) {
+        return usage(rt);
     }
-    reading::run(i)
+    reading::run(rt, i)
 }
 
 // sheet check: what stands behind that, from argument i on.
-fn run_check(i: usize, count: usize) -> u8
+fn run_check(rt: &HostRuntime, i: usize, count: usize) -> u8
     requires { i ≤ 4 }
 {
-    let mixed = is_arg(i, b"-m");
+    let mixed = is_arg(rt, i, b"-m");
     let at = behind_mixed(i, mixed);
-    if is_option(at) | !has_words(at + 1, count) {
-        return usage();
+    if is_option(rt, at) | !has_words(at + 1, count) {
+        return usage(rt);
     }
-    checking::run(at, count, mixed)
+    checking::run(rt, at, count, mixed)
 }
 
 // The program by its arguments; the status.
-fn run(first: usize, count: usize) -> u8
+fn run(rt: &HostRuntime, first: usize, count: usize) -> u8
     requires { first ≤ 3 }
 {
-    if is_arg(first, b"write") {
-        return run_write(first + 1, count);
+    if is_arg(rt, first, b"write") {
+        return run_write(rt, first + 1, count);
     }
-    if is_arg(first, b"read") {
-        return run_read(first + 1, count);
+    if is_arg(rt, first, b"read") {
+        return run_read(rt, first + 1, count);
     }
-    if is_arg(first, b"check") {
-        return run_check(first + 1, count);
+    if is_arg(rt, first, b"check") {
+        return run_check(rt, first + 1, count);
     }
-    usage()
+    usage(rt)
 }
 
-fn main() {
-    let a = console::args::begin();
-    let status = run(a.first, a.count);
+fn main(rt: HostRuntime) {
+    let a = console::args::begin(&rt);
+    let status = run(&rt, a.first, a.count);
     console::args::end(a, status);
 }

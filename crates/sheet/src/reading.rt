@@ -84,22 +84,22 @@ fn put_read(room: &mut [u8], sheet: &[u8]) -> usize
 }
 
 // What a sheet says goes to standard output, in one piece; the answer is the status.
-fn write_read(sheet: &[u8]) -> u8 {
+fn write_read(rt: &HostRuntime, sheet: &[u8]) -> u8 {
     let mut room = io::large_buffer();
     let n = put_read(&mut room, sheet);
-    if console::out::write(b"sheet", &room[..n]) {
+    if console::out::write(rt, b"sheet", &room[..n]) {
         return 0;
     }
     1
 }
 
 // The sheet in the file of argument i; the answer is the status.
-pub(crate) fn run(i: usize) -> u8 {
+pub(crate) fn run(rt: &HostRuntime, i: usize) -> u8 {
     let mut sheet = [0u8; ROOM];
-    let p = crate::file::read_arg(i, &mut sheet);
-    if p.failed {
+    let p = crate::file::read_arg(rt, i, &mut sheet);
+    let Some(length) = p else {
         return 1;
-    }
-    let n = cursor_in(&sheet, p.count);
-    write_read(&sheet[..n])
+    };
+    let n = cursor_in(&sheet, length);
+    write_read(rt, &sheet[..n])
 }

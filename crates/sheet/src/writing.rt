@@ -27,27 +27,27 @@ pub(crate) fn prn_of(heard: Heard) -> u8 {
 }
 
 // The list gives no sheet: the number of the refusal, and its words.
-fn say_refused(number: u8) {
+fn say_refused(rt: &HostRuntime, number: u8) {
     let mut refused = [0u8; 20];
     let mut words = [0u8; 80];
     let a = put_bytes(&mut refused, 0, b"refused ");
     let n = put_number(&mut refused, a, number as u64);
     let k = put_refusal(&mut words, 0, number);
-    console::say::say_file(b"sheet", &refused[..n], &words[..k]);
+    console::say::say_file(rt, b"sheet", &refused[..n], &words[..k]);
 }
 
 // The sheet of the list of a PRN's ledger goes to standard output, in one piece; the answer is the status.
-fn write_list(table: &[u8; TABLE_SIZE], prn: u8, issues: &[u16; 255]) -> u8 {
+fn write_list(rt: &HostRuntime, table: &[u8; TABLE_SIZE], prn: u8, issues: &[u16; 255]) -> u8 {
     let mut room = [0u8; crate::file::ROOM];
     let s = write_sheet(&mut room, ledger_for(table, prn), issues);
     match s {
         Sheet::Refused(number) => {
-            say_refused(number);
+            say_refused(rt, number);
             1
         }
         Sheet::Written(length) => {
             let n = cursor_in(&room, length as usize);
-            if console::out::write(b"sheet", &room[..n]) {
+            if console::out::write(rt, b"sheet", &room[..n]) {
                 0
             } else {
                 1
@@ -57,11 +57,12 @@ fn write_list(table: &[u8; TABLE_SIZE], prn: u8, issues: &[u16; 255]) -> u8 {
 }
 
 // PRN, ISSUES and the logs are the arguments from i on, of count; the answer is the status.
-pub(crate) fn run(i: usize, count: usize, mixed: bool) -> u8 {
+pub(crate) fn run(rt: &HostRuntime, i: usize, count: usize, mixed: bool) -> u8 {
     let mut table = [0u8; TABLE_SIZE];
     let mut tally = [0u8; TALLY_SIZE];
     let mut refused = [0u64; REFUSED];
     let heard = take_night(
+        rt,
         b"sheet",
         i,
         count,
@@ -74,5 +75,5 @@ pub(crate) fn run(i: usize, count: usize, mixed: bool) -> u8 {
         return 1;
     }
     let issues = heard.issues;
-    write_list(&table, prn_of(heard), &issues)
+    write_list(rt, &table, prn_of(heard), &issues)
 }

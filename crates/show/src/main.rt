@@ -7,64 +7,65 @@ mod heads;
 mod lines;
 
 use console::args::{Args, own, own_count, own_is};
+use console::input::{Input, open, standard};
 use console::put::{put_byte, put_detail, put_text};
 use console::turns::{ENDED, NOTHING, WRITTEN, WRONG, status_of};
 use contents::parts::Contents;
-use libc::{STDERR_FILENO, STDIN_FILENO};
+use std::io::Error;
 use verdict::{Verdict, number_of};
 
 // A line goes to standard output.
-fn write_line(line: &[u8]) -> u8 {
-    if console::out::write(b"show", line) {
+fn write_line(rt: &HostRuntime, line: &[u8]) -> u8 {
+    if console::out::write(rt, b"show", line) {
         return WRITTEN;
     }
     WRONG
 }
 
 // The line of a refusal.
-fn write_refused(v: Verdict) -> u8 {
+fn write_refused(rt: &HostRuntime, v: Verdict) -> u8 {
     let mut room = [0u8; 60];
     let numbers = [number_of(v) as u64];
     let a = put_text(&mut room, 0, b"refused #", &numbers);
     let b = put_detail(&mut room, a, v);
     let k = put_byte(&mut room, b, 10);
-    write_line(&room[..k])
+    write_line(rt, &room[..k])
 }
 
 // The line of a message; that of a frame's message begins with its PRN.
-fn write_contents(text: &[u8], prn: u8, c: Contents) -> u8 {
+fn write_contents(rt: &HostRuntime, text: &[u8], prn: u8, c: Contents) -> u8 {
     let mut room = io::buffer();
     let numbers = [prn as u64];
     let a = put_text(&mut room, 0, text, &numbers);
     let k = lines::put_contents(&mut room, a, c);
-    write_line(&room[..k])
+    write_line(rt, &room[..k])
 }
 
 // The line of a message's bytes.
-fn show_message(s: &[u8]) -> u8 {
+fn show_message(rt: &HostRuntime, s: &[u8]) -> u8 {
     let r = message::read(s);
     let v = r.verdict;
     if number_of(v) == 0 {
         let c = r.contents;
-        return write_contents(b"", 0, c);
+        return write_contents(rt, b"", 0, c);
     }
-    write_refused(v)
+    write_refused(rt, v)
 }
 
 // The line of a frame's bytes.
-fn show_frame(s: &[u8]) -> u8 {
+fn show_frame(rt: &HostRuntime, s: &[u8]) -> u8 {
     let r = frame::read_frame(s);
     let v = r.verdict;
     if number_of(v) == 0 {
         let c = r.contents;
-        return write_contents(b"prn # ", frame::prn_of(s), c);
+        return write_contents(rt, b"prn # ", frame::prn_of(s), c);
     }
-    write_refused(v)
+    write_refused(rt, v)
 }
 
 // The file cannot be read at an offset.
-fn say_failed(name: &[u8], done: u64) -> u8 {
-    console::say::say_errno_where(b"show", name, b"offset", done);
+fn say_failed(rt: &HostRuntime, name: &[u8], done: u64, e: Error) -> u8 {
+    console::say::say_errno_where(rt, b"show", name, b"offset", done, e);
     WRONG
 }
 
@@ -77,27 +78,28 @@ fn is_framed(s: &[u8]) -> bool {
 }
 
 // The message at an offset; at the file's start there may be frames instead.
-fn message_at(name: &[u8], done: u64, s: &[u8]) -> u8 {
+fn message_at(rt: &HostRuntime, name: &[u8], done: u64, s: &[u8]) -> u8 {
     if (done == 0) & is_framed(s) {
         console::say::say_file(
+            rt,
             b"show",
             name,
             b"these look like frames, which begin with EB90; use show -f",
         );
         return WRONG;
     }
-    show_message(s)
+    show_message(rt, s)
 }
 
 // The message or the frame at an offset.
-fn show_bytes(name: &[u8], done: u64, s: &[u8], frames: bool) -> u8 {
+fn show_bytes(rt: &HostRuntime, name: &[u8], done: u64, s: &[u8], frames: bool) -> u8 {
     if s.len() == 0 {
         return ENDED;
     }
     if frames {
-        return show_frame(s);
+        return show_frame(rt, s);
     }
-    message_at(name, done, s)
+    message_at(rt, name, done, s)
 }
 
 // How many bytes a message or a frame has.
@@ -106,33 +108,40 @@ fn size_of(frames: bool) -> u8 {
 }
 
 // The next message or frame of a file, in a room of its size.
-fn turn_in(room: &mut [u8], fd: i32, name: &[u8], done: u64, frames: bool) -> u8 {
-    let p = console::input::fill(fd, room);
-    if p.failed {
-        return say_failed(name, done);
+fn turn_in(
+    rt: &HostRuntime,
+    room: &mut [u8],
+    input: &mut Input,
+    name: &[u8],
+    done: u64,
+    frames: bool,
+) -> u8 {
+    let p = console::input::fill(input, room);
+    if let Some(e) = p.error {
+        return say_failed(rt, name, done, e);
     }
     let n = p.count;
-    show_bytes(name, done, &room[..n], frames)
+    show_bytes(rt, name, done, &room[..n], frames)
 }
 
 // The next message or frame of a file.
-fn turn(fd: i32, name: &[u8], done: u64, frames: bool) -> u8 {
+fn turn(rt: &HostRuntime, input: &mut Input, name: &[u8], done: u64, frames: bool) -> u8 {
     if frames {
         let mut frame = [0u8; 125];
-        return turn_in(&mut frame, fd, name, done, true);
+        return turn_in(rt, &mut frame, input, name, done, true);
     }
     let mut message = [0u8; 61];
-    turn_in(&mut message, fd, name, done, false)
+    turn_in(rt, &mut message, input, name, done, false)
 }
 
 // All messages or frames of a file, and how the reading ended.
-fn show_turns(fd: i32, name: &[u8], frames: bool) -> u8 {
+fn show_turns(rt: &HostRuntime, input: &mut Input, name: &[u8], frames: bool) -> u8 {
     let size = size_of(frames) as u64;
     let mut state = NOTHING;
     let mut done: u64 = 0;
     let mut left: u64 = 100000000000000000;
     while left > 0 && state < ENDED {
-        state = turn(fd, name, done, frames);
+        state = turn(rt, input, name, done, frames);
         done = done % 10000000000000000000 + size;
         left -= 1;
     }
@@ -140,59 +149,59 @@ fn show_turns(fd: i32, name: &[u8], frames: bool) -> u8 {
 }
 
 // All messages or frames of a file; the status.
-fn show_all(fd: i32, name: &[u8], frames: bool) -> u8 {
-    status_of(show_turns(fd, name, frames))
+fn show_all(rt: &HostRuntime, input: &mut Input, name: &[u8], frames: bool) -> u8 {
+    status_of(show_turns(rt, input, name, frames))
 }
 
 // The file of a name; - is standard input.
-fn show_file(name: &[u8], frames: bool) -> u8 {
+fn show_file(rt: &HostRuntime, name: &[u8], frames: bool) -> u8 {
     if console::words::same(name, b"-") {
-        return show_all(STDIN_FILENO, b"standard input", frames);
+        return show_all(rt, &mut standard(rt), b"standard input", frames);
     }
-    let fd = os::open_read(name);
-    if fd < 0 {
-        console::say::say_errno(b"show", name);
-        return 1;
+    match open(rt, name) {
+        Ok(mut input) => show_all(rt, &mut input, name, frames),
+        Err(e) => {
+            console::say::say_errno(rt, b"show", name, e);
+            1
+        }
     }
-    let status = show_all(fd, name, frames);
-    libc::close(fd);
-    status
 }
 
 // How the program is called.
-fn usage() -> u8 {
-    io::write_all(STDERR_FILENO, b"usage: show [-f] FILE\n");
+fn usage(rt: &HostRuntime) -> u8 {
+    console::say::complain(rt, b"usage: show [-f] FILE\n");
     2
 }
 
 // The file of the program's own argument i.
-fn show_arg(a: Args, i: usize, frames: bool) -> u8 {
+fn show_arg(rt: &HostRuntime, a: Args, i: usize, frames: bool) -> u8 {
     let mut path = io::buffer();
-    let n = own(a, i, &mut path);
-    if os::errno() != 0 {
-        console::say::say_errno(b"show", b"argument");
+    let p = own(rt, a, i, &mut path);
+    if let Some(e) = p.error {
+        console::say::say_errno(rt, b"show", b"argument", e);
         return 1;
     }
+    let n = p.count;
     if console::words::is_option(&path[..n]) {
-        return usage();
+        return usage(rt);
     }
-    show_file(&path[..n], frames)
+    show_file(rt, &path[..n], frames)
 }
 
 // The program by its arguments; the status.
-fn run(a: Args) -> u8 {
+fn run(rt: &HostRuntime, a: Args) -> u8 {
     let count = own_count(a);
     if count == 1 {
-        return show_arg(a, 0, false);
+        return show_arg(rt, a, 0, false);
     }
-    if (count == 2) & own_is(a, 0, b"-f") {
-        return show_arg(a, 1, true);
+    if (count == 2) & own_is(rt, a, 0, b"-f") {
+        return show_arg(rt, a, 1, true);
     }
-    usage()
+    usage(rt)
 }
 
-fn main() {
-    let a = console::args::begin();
-    let status = run(a);
+fn main(rt: HostRuntime) {
+    let a = console::args::begin(&rt);
+    let status = run(&rt, a);
     console::args::end(a, status);
 }
