@@ -1,4 +1,4 @@
-// The library at the C boundary: include/quieuvodan.h. Every function answers 0 or one refusal number; 39 is a lent slice of a wrong length.
+// The calls of include/quieuvodan.h; quieuvodan_c exports them for C. Every function answers 0 or one refusal number; 39 is a lent slice of a wrong length.
 #![tactic(auto)]
 
 ghost use Rattle.std.specs.Prelude.{◌≡◌, length};
@@ -36,8 +36,7 @@ pub mod tables;
 const CONTENTS_SIZE: usize = 516;
 
 // A fresh ledger for a PRN. 4, 39.
-#[unsafe(no_mangle)]
-pub extern "C" fn qvd_open(ledger: &mut [u8], prn: u8) -> u8
+pub fn qvd_open(ledger: &mut [u8], prn: u8) -> u8
     ensures answer { result ≡ open_answer ledger.old prn }
     ensures bytes { ledger.new ≡ open_room ledger.old prn }
 {
@@ -52,8 +51,7 @@ pub extern "C" fn qvd_open(ledger: &mut [u8], prn: u8) -> u8
 }
 
 // A frame is taken into a ledger. 1, 3 to 12, 14, 15, 19, 39.
-#[unsafe(no_mangle)]
-pub extern "C" fn qvd_take(ledger: &mut [u8], frame: &[u8]) -> u8
+pub fn qvd_take(ledger: &mut [u8], frame: &[u8]) -> u8
     ensures answer { result ≡ take_answer number_in ledger.old frame.now }
     ensures bytes { ledger.new ≡ take_room ledger.old frame.now }
 {
@@ -64,8 +62,7 @@ pub extern "C" fn qvd_take(ledger: &mut [u8], frame: &[u8]) -> u8
 }
 
 // A frame is taken into a ledger, and the answer also says what the numbers 6 and 19 carry. 1, 3 to 12, 14, 15, 19, 39.
-#[unsafe(no_mangle)]
-pub extern "C" fn qvd_take_detail(ledger: &mut [u8], frame: &[u8]) -> u32
+pub fn qvd_take_detail(ledger: &mut [u8], frame: &[u8]) -> u32
     ensures answer { result ≡ take_answer detail_in ledger.old frame.now }
     ensures bytes { ledger.new ≡ take_room ledger.old frame.now }
 {
@@ -76,8 +73,7 @@ pub extern "C" fn qvd_take_detail(ledger: &mut [u8], frame: &[u8]) -> u32
 }
 
 // A fresh ledger for a PRN takes all frames of a log, one verdict byte a frame; a rest at the end is one more frame. 4, 39.
-#[unsafe(no_mangle)]
-pub extern "C" fn qvd_replay(ledger: &mut [u8], prn: u8, log: &[u8], verdicts: &mut [u8]) -> u8
+pub fn qvd_replay(ledger: &mut [u8], prn: u8, log: &[u8], verdicts: &mut [u8]) -> u8
     ensures answer { result ≡ replay_answer ledger.old prn log.now verdicts.old }
     ensures bytes { ledger.new ≡ replay_ledger ledger.old prn log.now verdicts.old }
     ensures answers { verdicts.new ≡ replay_verdicts number_in ledger.old prn log.now verdicts.old }
@@ -86,13 +82,7 @@ pub extern "C" fn qvd_replay(ledger: &mut [u8], prn: u8, log: &[u8], verdicts: &
 }
 
 // A fresh ledger for a PRN takes all frames of a log, and each number also says what 6 and 19 carry. 4, 39.
-#[unsafe(no_mangle)]
-pub extern "C" fn qvd_replay_detail(
-    ledger: &mut [u8],
-    prn: u8,
-    log: &[u8],
-    details: &mut [u32],
-) -> u8
+pub fn qvd_replay_detail(ledger: &mut [u8], prn: u8, log: &[u8], details: &mut [u32]) -> u8
     ensures answer { result ≡ replay_answer ledger.old prn log.now details.old }
     ensures bytes { ledger.new ≡ replay_ledger ledger.old prn log.now details.old }
     ensures answers { details.new ≡ replay_verdicts detail_in ledger.old prn log.now details.old }
@@ -101,8 +91,7 @@ pub extern "C" fn qvd_replay_detail(
 }
 
 // All rows in rising slot order, then zeros. 1, 17, 39.
-#[unsafe(no_mangle)]
-pub extern "C" fn qvd_rows(ledger: &[u8], issues: &[u16], rows: &mut [u8]) -> u8
+pub fn qvd_rows(ledger: &[u8], issues: &[u16], rows: &mut [u8]) -> u8
     ensures answer { result ≡ rows_answer ledger.now issues.now rows.old }
     ensures bytes { rows.new ≡ rows_room ledger.now issues.now rows.old }
 {
@@ -110,8 +99,7 @@ pub extern "C" fn qvd_rows(ledger: &[u8], issues: &[u16], rows: &mut [u8]) -> u8
 }
 
 // The row of a slot. 1, 11, 17, 18, 39.
-#[unsafe(no_mangle)]
-pub extern "C" fn qvd_row(ledger: &[u8], issues: &[u16], slot: u16, row: &mut [u8]) -> u8
+pub fn qvd_row(ledger: &[u8], issues: &[u16], slot: u16, row: &mut [u8]) -> u8
     ensures answer { result ≡ row_answer ledger.now issues.now slot row.old }
     ensures bytes { row.new ≡ row_room ledger.now issues.now slot row.old }
 {
@@ -134,8 +122,7 @@ fn put_reading(room: &mut [u8], r: Reading) -> Verdict
 }
 
 // The contents of a message; on a refusal the room is as it was. 1, 2, 7 to 13, 39.
-#[unsafe(no_mangle)]
-pub extern "C" fn qvd_read(message: &[u8], contents: &mut [u8]) -> u8
+pub fn qvd_read(message: &[u8], contents: &mut [u8]) -> u8
     ensures answer { result ≡ read_answer message.now contents.old }
     ensures bytes { contents.new ≡ read_room message.now contents.old }
 {
@@ -146,8 +133,7 @@ pub extern "C" fn qvd_read(message: &[u8], contents: &mut [u8]) -> u8
 }
 
 // The contents of a frame, read without a ledger; on a refusal the room is as it was. 1, 3, 5 to 13, 39.
-#[unsafe(no_mangle)]
-pub extern "C" fn qvd_read_frame(frame: &[u8], contents: &mut [u8]) -> u8
+pub fn qvd_read_frame(frame: &[u8], contents: &mut [u8]) -> u8
     ensures answer { result ≡ frame_answer number_in frame.now contents.old }
     ensures bytes { contents.new ≡ frame_room frame.now contents.old }
 {
@@ -158,8 +144,7 @@ pub extern "C" fn qvd_read_frame(frame: &[u8], contents: &mut [u8]) -> u8
 }
 
 // The contents of a frame as qvd_read_frame gives them, and the answer also says what the number 6 carries. 1, 3, 5 to 13, 39.
-#[unsafe(no_mangle)]
-pub extern "C" fn qvd_read_frame_detail(frame: &[u8], contents: &mut [u8]) -> u32
+pub fn qvd_read_frame_detail(frame: &[u8], contents: &mut [u8]) -> u32
     ensures answer { result ≡ frame_answer detail_in frame.now contents.old }
     ensures bytes { contents.new ≡ frame_room frame.now contents.old }
 {
@@ -170,8 +155,7 @@ pub extern "C" fn qvd_read_frame_detail(frame: &[u8], contents: &mut [u8]) -> u3
 }
 
 // The message of contents. 1, 8 to 12, 16, 39.
-#[unsafe(no_mangle)]
-pub extern "C" fn qvd_write(contents: &[u8], room: &mut [u8]) -> u8
+pub fn qvd_write(contents: &[u8], room: &mut [u8]) -> u8
     ensures answer { result ≡ write_answer contents.now room.old }
     ensures bytes { room.new ≡ write_room contents.now room.old }
 {
@@ -182,8 +166,7 @@ pub extern "C" fn qvd_write(contents: &[u8], room: &mut [u8]) -> u8
 }
 
 // The 125 bytes of a message's frame, with a PRN and the six flags; on a refusal the room is as it was. 1, 2, 4, 16.
-#[unsafe(no_mangle)]
-pub extern "C" fn qvd_make_frame(message: &[u8], prn: u8, flags: u8, frame: &mut [u8]) -> u8
+pub fn qvd_make_frame(message: &[u8], prn: u8, flags: u8, frame: &mut [u8]) -> u8
     ensures answer { result ≡ make_answer message.now prn flags frame.old }
     ensures bytes { Leaves message.now prn flags frame.old frame.new }
 {
@@ -191,16 +174,14 @@ pub extern "C" fn qvd_make_frame(message: &[u8], prn: u8, flags: u8, frame: &mut
 }
 
 // A frame is checked against its message, and the answer also says what the number 6 carries. 1, 2, 3, 6, 38.
-#[unsafe(no_mangle)]
-pub extern "C" fn qvd_check_frame(message: &[u8], frame: &[u8]) -> u32
+pub fn qvd_check_frame(message: &[u8], frame: &[u8]) -> u32
     ensures { result ≡ check_answer message.now frame.now }
 {
     detail(making::check(message, frame))
 }
 
 // The 28 bytes of a subframe's information bits, its code words corrected; on a refusal the room is as it was. 31 to 34.
-#[unsafe(no_mangle)]
-pub extern "C" fn qvd_d1_read(subframe: &[u8], information: &mut [u8]) -> u8
+pub fn qvd_d1_read(subframe: &[u8], information: &mut [u8]) -> u8
     ensures answer { result ≡ d1_read_answer subframe.now information.old }
     ensures bytes { information.new ≡ d1_read_room subframe.now information.old }
 {
@@ -208,8 +189,7 @@ pub extern "C" fn qvd_d1_read(subframe: &[u8], information: &mut [u8]) -> u8
 }
 
 // The 38 bytes of the subframe of 28 bytes of information bits; on a refusal the room is as it was. 31 to 34.
-#[unsafe(no_mangle)]
-pub extern "C" fn qvd_d1_write(information: &[u8], subframe: &mut [u8]) -> u8
+pub fn qvd_d1_write(information: &[u8], subframe: &mut [u8]) -> u8
     ensures answer { result ≡ d1_write_answer information.now subframe.old }
     ensures bytes { subframe.new ≡ d1_write_room information.now subframe.old }
 {
@@ -217,8 +197,7 @@ pub extern "C" fn qvd_d1_write(information: &[u8], subframe: &mut [u8]) -> u8
 }
 
 // The fields of a B-CNAV1 subframe 2, eight bytes each; on a refusal the room is as it was. 35 to 37, 39.
-#[unsafe(no_mangle)]
-pub extern "C" fn qvd_read_cnav1(subframe: &[u8], fields: &mut [u8]) -> u8
+pub fn qvd_read_cnav1(subframe: &[u8], fields: &mut [u8]) -> u8
     ensures answer { result ≡ cnav1_answer subframe.now fields.old }
     ensures bytes { fields.new ≡ cnav1_room subframe.now fields.old }
 {
@@ -226,8 +205,7 @@ pub extern "C" fn qvd_read_cnav1(subframe: &[u8], fields: &mut [u8]) -> u8
 }
 
 // The IODC of a BeiDou satellite is put into the broadcast list; on a refusal the list is as it was. 1, 11, 17.
-#[unsafe(no_mangle)]
-pub extern "C" fn qvd_join_issue(issues: &mut [u16], prn: u16, iodc: u16) -> u8
+pub fn qvd_join_issue(issues: &mut [u16], prn: u16, iodc: u16) -> u8
     ensures answer { result ≡ join_answer issues.old prn iodc }
     ensures entries { issues.new ≡ join_room issues.old prn iodc }
 {
@@ -235,8 +213,7 @@ pub extern "C" fn qvd_join_issue(issues: &mut [u16], prn: u16, iodc: u16) -> u8
 }
 
 // The bytes of the next piece of a log: a frame that is found, or what stands before it.
-#[unsafe(no_mangle)]
-pub extern "C" fn qvd_next_piece(bytes: &[u8]) -> u8
+pub fn qvd_next_piece(bytes: &[u8]) -> u8
     ensures { result ≡ piece_length bytes.now }
 {
     pieces::piece_length(bytes)

@@ -23,8 +23,7 @@ fn written(a: Sheet) -> u32
 }
 
 // The sheet of a ledger's list is written; on a refusal the room is as it was. 1, 17, 20, 22, 39.
-#[unsafe(no_mangle)]
-pub extern "C" fn qvd_write_sheet(ledger: &[u8], issues: &[u16], room: &mut [u8]) -> u32
+pub fn qvd_write_sheet(ledger: &[u8], issues: &[u16], room: &mut [u8]) -> u32
     ensures answer { result ≡ write_sheet_answer ledger.now issues.now room.old }
     ensures bytes { room.new ≡ write_sheet_room ledger.now issues.now room.old }
 {
@@ -35,8 +34,7 @@ pub extern "C" fn qvd_write_sheet(ledger: &[u8], issues: &[u16], room: &mut [u8]
 }
 
 // What a sheet says: its header, and its rows with zeros after them; on a refusal both rooms are as they were. 23 with its offset, 39.
-#[unsafe(no_mangle)]
-pub extern "C" fn qvd_read_sheet(sheet: &[u8], header: &mut [u8], rows: &mut [u8]) -> u32
+pub fn qvd_read_sheet(sheet: &[u8], header: &mut [u8], rows: &mut [u8]) -> u32
     ensures answer { result ≡ read_sheet_answer sheet.now header.old rows.old }
     ensures header { header.new ≡ read_sheet_header sheet.now header.old rows.old }
     ensures rows { rows.new ≡ read_sheet_rows sheet.now header.old rows.old }
@@ -60,8 +58,7 @@ fn checked(a: Checked) -> u32
 }
 
 // A partner's sheet is checked: 256 times how many of our rows it left out. 1, 17, 20, 23 with its offset, 24 to 26 with their row, 27, 39.
-#[unsafe(no_mangle)]
-pub extern "C" fn qvd_check_sheet(ledger: &[u8], issues: &[u16], sheet: &[u8]) -> u32
+pub fn qvd_check_sheet(ledger: &[u8], issues: &[u16], sheet: &[u8]) -> u32
     ensures { result ≡ check_sheet_answer ledger.now issues.now sheet.now }
 {
     if ledger.len() != LEDGER_SIZE {
@@ -95,8 +92,7 @@ fn checked_number(a: Checked) -> u8
 }
 
 // The sheet of the list of a PRN in a table is written; on a refusal the room is as it was. 1, 17, 20, 22, 30, 39.
-#[unsafe(no_mangle)]
-pub extern "C" fn qvd_table_write_sheet(
+pub fn qvd_table_write_sheet(
     table: &[u8],
     tally: &mut [u8],
     prn: u8,
@@ -116,8 +112,7 @@ pub extern "C" fn qvd_table_write_sheet(
 }
 
 // A partner's sheet is checked against the list of a PRN in a table. 1, 17, 20, 23 with its offset, 24 to 26 with their row, 27, 30, 39.
-#[unsafe(no_mangle)]
-pub extern "C" fn qvd_table_check_sheet(
+pub fn qvd_table_check_sheet(
     table: &[u8],
     tally: &mut [u8],
     prn: u8,

@@ -15,8 +15,7 @@ use tally::{TALLY_SIZE, count};
 use verdict::number_of;
 
 // A ledger is opened for a PRN in the first room that is free. 4, 28, 29, 39.
-#[unsafe(no_mangle)]
-pub extern "C" fn qvd_table_open(table: &mut [u8], tally: &mut [u8], prn: u8) -> u8
+pub fn qvd_table_open(table: &mut [u8], tally: &mut [u8], prn: u8) -> u8
     ensures answer { result ≡ table_open_answer table.old tally.old prn }
     ensures bytes { table.new ≡ table_opened table.old tally.old prn }
     ensures tally { tally.new ≡ table_open_tally table.old tally.old prn }
@@ -30,8 +29,7 @@ pub extern "C" fn qvd_table_open(table: &mut [u8], tally: &mut [u8], prn: u8) ->
 }
 
 // The ledger of a PRN is closed, and its room is free. 30, 39.
-#[unsafe(no_mangle)]
-pub extern "C" fn qvd_table_close(table: &mut [u8], tally: &mut [u8], prn: u8) -> u8
+pub fn qvd_table_close(table: &mut [u8], tally: &mut [u8], prn: u8) -> u8
     ensures answer { result ≡ table_close_answer table.old tally.old prn }
     ensures bytes { table.new ≡ table_closed table.old tally.old prn }
     ensures tally { tally.new ≡ table_close_tally table.old tally.old prn }
@@ -45,8 +43,7 @@ pub extern "C" fn qvd_table_close(table: &mut [u8], tally: &mut [u8], prn: u8) -
 }
 
 // A frame is taken by the ledger of its PRN. 1, 3 to 12, 14, 15, 19, 39.
-#[unsafe(no_mangle)]
-pub extern "C" fn qvd_table_take(table: &mut [u8], tally: &mut [u8], frame: &[u8]) -> u8
+pub fn qvd_table_take(table: &mut [u8], tally: &mut [u8], frame: &[u8]) -> u8
     ensures answer { result ≡ table_take_answer number_in table.old tally.old frame.now }
     ensures bytes { table.new ≡ table_taken table.old tally.old frame.now }
     ensures tally { tally.new ≡ table_take_tally table.old tally.old frame.now }
@@ -60,8 +57,7 @@ pub extern "C" fn qvd_table_take(table: &mut [u8], tally: &mut [u8], frame: &[u8
 }
 
 // A frame is taken by the ledger of its PRN, and the answer also says what the numbers 6 and 19 carry. 1, 3 to 12, 14, 15, 19, 39.
-#[unsafe(no_mangle)]
-pub extern "C" fn qvd_table_take_detail(table: &mut [u8], tally: &mut [u8], frame: &[u8]) -> u32
+pub fn qvd_table_take_detail(table: &mut [u8], tally: &mut [u8], frame: &[u8]) -> u32
     ensures answer { result ≡ table_take_answer detail_in table.old tally.old frame.now }
     ensures bytes { table.new ≡ table_taken table.old tally.old frame.now }
     ensures tally { tally.new ≡ table_take_tally table.old tally.old frame.now }
@@ -85,8 +81,7 @@ fn rows_refusal(table: &[u8], prn: u8, issues: &[u16], n: usize) -> u8
 }
 
 // All rows of the list of a PRN in rising slot order, then zeros. 1, 17, 30, 39.
-#[unsafe(no_mangle)]
-pub extern "C" fn qvd_table_rows(
+pub fn qvd_table_rows(
     table: &[u8],
     tally: &mut [u8],
     prn: u8,
@@ -110,8 +105,7 @@ pub extern "C" fn qvd_table_rows(
 }
 
 // The row of a slot in the list of a PRN. 1, 11, 17, 18, 30, 39.
-#[unsafe(no_mangle)]
-pub extern "C" fn qvd_table_row(
+pub fn qvd_table_row(
     table: &[u8],
     tally: &mut [u8],
     prn: u8,
