@@ -35,6 +35,6 @@ pub returns : goal.returns
 returns c =
     let a = c.args in
     let p =
-      right_written a.ledger.now a.issues.now a.room.now c.requires.0 _ c.requires.1 (sym c.has_mask.ensures ∙ c.if-not-has_mask.false)
-      _ _ c.if-room-size.false c.header_of-h.ensures c.put_sheet.ensures in
+    right_written a.ledger.now a.issues.now a.room.now c.requires.0 _ c.requires.1 (sym c.has_mask.ensures ∙ c.if-not-has_mask.false)
+    _ _ c.if-room-size.false c.header_of-h.ensures c.put_sheet.ensures in
     record { answer = p.0; bytes = p.1 }

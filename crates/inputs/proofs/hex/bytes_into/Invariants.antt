@@ -1,0 +1,18 @@
+use borrow.Author.Rules.{rules}
+use native.Mathlib.Omega.{arith}
+use Prim.Native.Nat.{◌*◌, ◌-◌, ◌≤◌}
+use mathlib.Core.Path.{◌≡◌, refl}
+use lib.ListN.{length, drop}
+use mathlib.Core.List.{◌++◌}
+use Rattle.io.proofs.Counting.{prefix_len_of_le}
+use Rattle.bits.specs.Table.{table}
+use Rattle.bits.proofs.TableLaws.{fill_start, fill_step}
+use Rattle.inputs.specs.Hex.{byte_of}
+use Rattle.inputs.proofs.hex.bytes_into.Given as goal
+
+abbrev pub invariant-loop-i : goal.invariant-loop-i
+invariant-loop-i l =
+    (l.n ≤ length l.initial.room) × (2 * l.n ≤ length l.w) × (l.i ≤ l.n) × (length l.room ≡ length l.initial.room) × (l.room ≡ table (byte_of l.w) l.i ++ drop l.i l.initial.room)
+
+abbrev pub decreases-loop-i : goal.decreases-loop-i
+decreases-loop-i l = l.n - l.i

@@ -1,0 +1,10 @@
+use Rattle.io.proofs.Counting.{prefix_len_of_le}
+use borrow.Author.Rules.{rules}
+use native.Mathlib.Omega.{arith}
+use Prim.Native.Nat.{◌-◌, ◌≤◌}
+use mathlib.Core.Path.{◌≡◌}
+use lib.ListN.{length}
+use Rattle.report_lines.proofs.counts.put_refusals.Goals as goal
+
+pub returns : goal.returns
+returns c = prefix_len_of_le _ _ (omega arith)

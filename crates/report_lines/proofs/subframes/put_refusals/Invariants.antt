@@ -1,0 +1,13 @@
+use Rattle.io.proofs.Counting.{prefix_len_of_le as counts}
+use borrow.Author.Rules.{rules}
+use native.Mathlib.Omega.{arith}
+use Prim.Native.Nat.{◌-◌, ◌≤◌}
+use mathlib.Core.Path.{◌≡◌}
+use lib.ListN.{length}
+use Rattle.report_lines.proofs.subframes.put_refusals.Given as goal
+
+abbrev pub invariant-loop-i : goal.invariant-loop-i
+invariant-loop-i l = (length l.room ≡ length l.initial.room) × (l.n ≤ length l.room) × (l.i ≤ 40)
+
+abbrev pub decreases-loop-i : goal.decreases-loop-i
+decreases-loop-i l = 40 - l.i
