@@ -12,7 +12,7 @@ returns-then-n-ne0 c =
     let s = c.args.s.now in
     let r = c.read-r in
     let e : subframe2_refusal s ≡ c.number_of-n.result = sym (c.number_of-n.ensures ∙ ap number_in (said_by s r.result r.ensures) ∙ number_back _) in
-    (rw (e, ne_eqb _ _ c.if-n-ne0.true), rw (e, ne_eqb _ _ c.if-n-ne0.true))
+    record { refusal = rw (e, ne_eqb _ _ c.if-n-ne0.true); entries = rw (e, ne_eqb _ _ c.if-n-ne0.true) }
 
 pub returns : goal.returns
 returns c =
@@ -20,4 +20,4 @@ returns c =
     let r = c.read-r in
     let z : subframe2_refusal s ≡ 0 = sym (c.number_of-n.ensures ∙ ap number_in (said_by s r.result r.ensures) ∙ number_back _) ∙ c.if-n-ne0.false in
     let g = c.get16-iodc.ensures in
-    (rw z (c.number_of.ensures ∙ ap number_in (rw g at c.join-j.ensures.0) ∙ number_back _), rw z (rw g at c.join-j.ensures.1))
+    record { refusal = rw z (c.number_of.ensures ∙ ap number_in (rw g at c.join-j.ensures.verdict) ∙ number_back _); entries = rw z (rw g at c.join-j.ensures.entries) }

@@ -1,0 +1,4 @@
+use Rattle.issues.proofs.reading.hear_lines.Given as goal
+
+abbrev pub decreases-loop-left : goal.decreases-loop-left
+decreases-loop-left l = l.left
