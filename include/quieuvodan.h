@@ -4,7 +4,7 @@
  * sheet, written, read and checked; subframes of the D1 and D2 messages; and
  * subframe 2 of B-CNAV1, whose IODC is joined into the issue list. For C and C++.
  *
- * Link with libquieuvodan.a (x86-64 Linux), which `rt staticlib quieuvodan`
+ * Link with libquieuvodan.a (x86-64 Linux), which `tools/staticlib`
  * writes to target/staticlib/. It uses memcpy and memset of the C library and
  * nothing else: no heap, no files, no global state. Functions on different
  * memory may run at the same time.
