@@ -25,5 +25,5 @@ returns c =
     let kind = c.requires.1 in
     let judged = c.refusal_of_mask-n.ensures ∙ ap mask_refusal_of c.mask_of-m.ensures ∙ mask_refusal_at f 28 kind in
     let both = way_free s f c.requires.0 _ judged c.if-n-ne0.false (mask_free (contents_of f) kind (mask_at s)) _
-        (c.take_mask.ensures ∙ ap (mask_bytes s) c.mask_of-m.ensures ∙ sym (taken_1 s (contents_of f) kind)) in
+    (c.take_mask.ensures ∙ ap (mask_bytes s) c.mask_of-m.ensures ∙ sym (taken_1 s (contents_of f) kind)) in
     record { verdict = both.0; bytes = both.1 }
