@@ -1,8 +1,4 @@
-use borrow.Author.Rules.{rules}
 use native.Mathlib.Omega.{arith}
-use Prim.Native.Nat.{◌-◌, ◌≤◌}
-use mathlib.Core.Path.{◌≡◌}
-use lib.ListN.{length}
 use Rattle.io.proofs.Counting.{prefix_len_of_le}
 use Rattle.cnav1.proofs.lines.put_fields.Goals as goal
 

@@ -1,4 +1,3 @@
-use borrow.Author.Rules.{rules}
 use Rattle.cnav1.proofs.reading.show_subframes.Given as goal
 
 abbrev pub invariant-loop-left : goal.invariant-loop-left

@@ -1,7 +1,5 @@
 use Rattle.io.proofs.Counting.{prefix_len_of_le}
-use borrow.Author.Rules.{rules}
 use native.Mathlib.Omega.{arith}
-use Prim.Native.Nat.{◌-◌}
 use Rattle.console.proofs.input.read_on.Goals as goal
 
 pub returns : goal.returns

@@ -1,6 +1,5 @@
 use Rattle.io.proofs.Counting.{prefix_len_of_le}
 use native.Mathlib.Omega.{arith}
-use Prim.Native.Nat.{◌-◌}
 use Rattle.console.proofs.put.cursor_in.Goals as goal
 
 pub returns-then-at-room : goal.returns-then-at-room

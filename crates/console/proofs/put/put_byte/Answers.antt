@@ -1,8 +1,6 @@
 use lib.ListN.{length-set}
 use Rattle.io.proofs.Counting.{prefix_len_of_le}
-use borrow.Author.Rules.{rules}
 use native.Mathlib.Omega.{arith}
-use Prim.Native.Nat.{◌-◌}
 use Rattle.console.proofs.put.put_byte.Goals as goal
 
 pub returns-then-at-room : goal.returns-then-at-room

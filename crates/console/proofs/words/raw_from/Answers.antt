@@ -2,7 +2,6 @@ use Rattle.bits.proofs.SignLaws.{neg_sub}
 use lib.IntN.{negsuc}
 use mir.Facts.{to_z_pos, to_z-of_z}
 use mir.Syntax.{w16}
-use borrow.Author.Rules.{rules}
 use native.Mathlib.Omega.{arith}
 use Prim.Native.Nat.{◌-◌}
 use Rattle.console.proofs.words.raw_from.Goals as goal

@@ -1,8 +1,5 @@
 use mathlib.Core.Bool.{true≢false}
-use borrow.Author.Rules.{rules}
-use Prim.Native.Nat.{◌-◌, ◌≤◌}
 use mathlib.Core.Path.{sym}
-use lib.ListN.{length}
 use Rattle.console.proofs.words.same.Goals as goal
 
 pub returns-then-s-t : goal.returns-then-s-t

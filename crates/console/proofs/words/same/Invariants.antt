@@ -1,7 +1,4 @@
-use mathlib.Core.Bool.{true≢false}
-use borrow.Author.Rules.{rules}
 use Prim.Native.Nat.{◌-◌, ◌≤◌}
-use mathlib.Core.Path.{sym}
 use lib.ListN.{length}
 use Rattle.console.proofs.words.same.Given as goal
 

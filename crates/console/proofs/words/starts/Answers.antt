@@ -1,6 +1,4 @@
 use mathlib.Core.Bool.{true≢false}
-use borrow.Author.Rules.{rules}
-use Prim.Native.Nat.{◌-◌}
 use mathlib.Core.Path.{sym}
 use Rattle.console.proofs.words.starts.Goals as goal
 

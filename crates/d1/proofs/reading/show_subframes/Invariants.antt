@@ -1,5 +1,3 @@
-use borrow.Author.Rules.{rules}
-use Prim.Native.Nat.{◌-◌}
 use Rattle.d1.proofs.reading.show_subframes.Given as goal
 
 abbrev pub invariant-loop-left : goal.invariant-loop-left

@@ -1,10 +1,7 @@
 use borrow.Author.Rules.{rules}
 use native.Mathlib.Omega.{arith}
-use Prim.Native.Nat.{◌-◌, ◌≤◌}
-use mathlib.Core.Path.{◌≡◌, sym, ◌∙◌, refl}
-use lib.ListN.{length, drop}
+use mathlib.Core.Path.{sym, ◌∙◌, refl}
 use borrow.Author.Tests.{lt-ltb, le-ltb}
-use Rattle.bits.specs.Some.{any_of}
 use Rattle.bits.proofs.SomeLaws.{some_hit, some_miss, some_end}
 use Rattle.inputs.specs.Hex.{is_no_digit}
 use Rattle.inputs.proofs.hex.any_no_digit.Goals as goal

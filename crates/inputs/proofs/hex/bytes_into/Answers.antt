@@ -1,13 +1,8 @@
 use borrow.Author.Rules.{rules}
 use native.Mathlib.Omega.{arith}
-use Prim.Native.Nat.{◌*◌, ◌-◌, ◌≤◌}
 use mathlib.Core.Path.{◌≡◌, refl}
-use lib.ListN.{length, drop}
-use mathlib.Core.List.{◌++◌}
 use Rattle.io.proofs.Counting.{prefix_len_of_le}
-use Rattle.bits.specs.Table.{table}
 use Rattle.bits.proofs.TableLaws.{fill_start, fill_step}
-use Rattle.inputs.specs.Hex.{byte_of}
 use Rattle.inputs.proofs.hex.bytes_into.Goals as goal
 
 pub loop-i-init : goal.loop-i-init

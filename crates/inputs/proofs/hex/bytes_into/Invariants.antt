@@ -1,12 +1,8 @@
-use borrow.Author.Rules.{rules}
-use native.Mathlib.Omega.{arith}
 use Prim.Native.Nat.{◌*◌, ◌-◌, ◌≤◌}
-use mathlib.Core.Path.{◌≡◌, refl}
+use mathlib.Core.Path.{◌≡◌}
 use lib.ListN.{length, drop}
 use mathlib.Core.List.{◌++◌}
-use Rattle.io.proofs.Counting.{prefix_len_of_le}
 use Rattle.bits.specs.Table.{table}
-use Rattle.bits.proofs.TableLaws.{fill_start, fill_step}
 use Rattle.inputs.specs.Hex.{byte_of}
 use Rattle.inputs.proofs.hex.bytes_into.Given as goal
 

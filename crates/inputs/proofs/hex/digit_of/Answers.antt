@@ -1,4 +1,3 @@
-use borrow.Author.Rules.{rules}
 use borrow.Author.Tests.{lt-ltb, le-ltb}
 use Rattle.inputs.specs.Hex.{digit_of}
 use Rattle.inputs.proofs.hex.digit_of.Goals as goal

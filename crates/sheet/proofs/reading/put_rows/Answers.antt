@@ -8,10 +8,6 @@ use Rattle.sheet_reader.specs.Walk.{rows_end, next_says}
 use Rattle.sheet_reader.proofs.WalkLaws.{less_left}
 use Rattle.sheet.proofs.reading.put_rows.Goals as goal
 
-pub returns-in_default : goal.returns-in_default
-returns-in_default c = prefix_len_of_le _ _ (omega arith)
-
 -- a row was found, so less is left
 pub loop-row-smaller : goal.loop-row-smaller
-loop-row-smaller c =
-    rw c.next_place-place.ensures (less_left _ _ (sym c.next_row-next.ensures ∙ ap next_says c.next-1.given.1))
+loop-row-smaller c = rw c.next_place-place.ensures (less_left _ _ (sym c.in-Found.ensures))

@@ -1,6 +1,5 @@
 use Rattle.records.proofs.ScaleLaws.{wider}
 use mir.Facts.{to_z-of_z}
-use borrow.Author.Rules.{rules}
 use Rattle.show.proofs.entries.wide.Goals as goal
 
 pub overflow_cast-result : goal.overflow_cast-result

@@ -1,0 +1,4 @@
+use Rattle.log_files.proofs.plain.all_pieces.Given as goal
+
+abbrev pub decreases-loop-left : goal.decreases-loop-left
+decreases-loop-left l = l.left
