@@ -7,5 +7,5 @@ pub mod files;
 pub mod heard;
 pub mod hex;
 pub mod issue_file;
-pub mod records;
+pub mod record_lines;
 pub mod satellites;

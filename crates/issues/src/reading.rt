@@ -9,7 +9,7 @@ use console::say::{say_found, say_where};
 use console::turns::{ENDED, NOTHING, WRITTEN, WRONG};
 use inputs::files::open_named;
 use inputs::hex::bytes_into;
-use inputs::records::{CNAV1, NO_DIGITS, NO_SATELLITE, heard_of};
+use inputs::record_lines::{CNAV1, NO_DIGITS, NO_SATELLITE, heard_of};
 
 // The subframe of a line is refused.
 fn say_refused(rt: &HostRuntime, name: &[u8], number: u64, refusal: u8) {
@@ -81,7 +81,7 @@ fn hear_line(rt: &HostRuntime, name: &[u8], number: u64, s: &[u8], issues: &mut 
         hear_digits(rt, name, number, r.prn, &s[from..to], issues);
         return WRITTEN;
     }
-    if r.kind == inputs::records::NOTHING {
+    if r.kind == inputs::record_lines::NOTHING {
         return NOTHING;
     }
     say_fault(rt, name, number, r.kind, &s[from..to]);

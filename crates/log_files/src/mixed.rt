@@ -10,7 +10,7 @@ use console::lines::{Lines, Step, next_line, past_long};
 use console::put::{put_bytes, put_text};
 use inputs::files::open_named;
 use inputs::hex::bytes_into;
-use inputs::records::{CNAV1, D1, FRAME, NOTHING, record_of};
+use inputs::record_lines::{CNAV1, D1, FRAME, NOTHING, record_of};
 use std::io::Error;
 use table_form::TABLE_SIZE;
 use tally::TALLY_SIZE;

@@ -2,7 +2,7 @@
 ghost use Rattle.io.specs.Counts.{IsPrefixLen};
 
 use crate::file::ROOM;
-use crate::reading::put_wrong;
+use crate::showing::put_wrong;
 use crate::writing::{how, prn_of};
 use console::put::{cursor_in, put_text};
 use log_files::accounts::REFUSED;

@@ -17,7 +17,7 @@ ghost use Rattle.std.specs.Prelude.{◌≤◌};
 
 mod checking;
 mod file;
-mod reading;
+mod showing;
 mod writing;
 
 use inputs::files::{is_arg, is_option};
@@ -59,7 +59,7 @@ fn run_read(rt: &HostRuntime, i: usize, count: usize) -> u8
     if is_option(rt, i) | (count != i + 1) {
         return usage(rt);
     }
-    reading::run(rt, i)
+    showing::run(rt, i)
 }
 
 // sheet check: what stands behind that, from argument i on.

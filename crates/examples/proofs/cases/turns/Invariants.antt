@@ -2,8 +2,5 @@ use borrow.Author.Rules.{rules}
 use Prim.Native.Nat.{◌-◌}
 use Rattle.examples.proofs.cases.turns.Given as goal
 
-abbrev pub invariant-loop-number : goal.invariant-loop-number
-invariant-loop-number l = Unit {0}
-
 abbrev pub decreases-loop-number : goal.decreases-loop-number
 decreases-loop-number l = 1001 - l.number

@@ -1,13 +1,9 @@
-use borrow.Author.Rules.{rules}
 use native.Mathlib.Omega.{arith}
-use mathlib.Core.Path.{sym, ◌∙◌, refl}
+use mathlib.Core.Path.{sym, ◌∙◌}
 use borrow.Author.Tests.{lt-ltb, le-ltb}
 use Rattle.bits.proofs.SomeLaws.{some_hit, some_miss, some_end}
 use Rattle.inputs.specs.Hex.{is_no_digit}
 use Rattle.inputs.proofs.hex.any_no_digit.Goals as goal
-
-pub loop-i-init : goal.loop-i-init
-loop-i-init c = (search rules, refl)
 
 pub returns-then-digit_of-gt15 : goal.returns-then-digit_of-gt15
 returns-then-digit_of-gt15 c =

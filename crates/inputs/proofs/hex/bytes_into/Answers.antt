@@ -1,7 +1,6 @@
 use borrow.Author.Rules.{rules}
 use native.Mathlib.Omega.{arith}
-use mathlib.Core.Path.{◌≡◌, refl}
-use Rattle.io.proofs.Counting.{prefix_len_of_le}
+use mathlib.Core.Path.{refl}
 use Rattle.bits.proofs.TableLaws.{fill_start, fill_step}
 use Rattle.inputs.proofs.hex.bytes_into.Goals as goal
 
@@ -11,8 +10,3 @@ loop-i-init c = (search rules, search rules, omega arith, refl, fill_start _ _)
 pub loop-i-preserved : goal.loop-i-preserved
 loop-i-preserved c =
     (search rules, search rules, omega arith, search rules, fill_step _ c.loop-i.i _ _ _ 0 (omega arith) c.loop-i.invariant.4 c.byte_of.ensures)
-
-pub returns : goal.returns
-returns c =
-    let q : c.loop-i.i ≡ c.count_of-n.result = omega arith in
-    record { count = c.count_of-n.ensures.0; bytes = rw q at c.loop-i.invariant.4; counted = prefix_len_of_le _ _ (omega arith) }

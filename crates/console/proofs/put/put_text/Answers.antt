@@ -1,6 +1,0 @@
-use Rattle.io.proofs.Counting.{prefix_len_of_le}
-use native.Mathlib.Omega.{arith}
-use Rattle.console.proofs.put.put_text.Goals as goal
-
-pub returns : goal.returns
-returns c = prefix_len_of_le _ _ (omega arith)
