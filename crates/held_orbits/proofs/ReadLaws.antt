@@ -1,7 +1,10 @@
 -- What the bytes of a slot's orbit say, field by field, as they are read.
 use mathlib.Core.Path.{◌≡◌, refl, sym}
 use mathlib.Core.Logic.{◌≢◌}
-use Prim.Native.Nat.{ℕ, ◌+◌}
+use Prim.Native.Nat.{ℕ, ◌+◌, ◌<◌}
+use borrow.Author.Rules.{rules}
+use mir.Syntax.{w64}
+use mir.Val.{Fits}
 use mathlib.Core.Bool.{Bool, true, false}
 use mathlib.Core.List.{List}
 use lib.Dec.{eqb}
@@ -25,6 +28,10 @@ pub orbit_made : {e e' s s' i i' k k' : ℕ} {r r' a a' c c' : ℤ} {u u' : Ura}
     (record { has = true; epoch = e; ssr = s; iodn = i; corr = k; radial = r; along = a; cross = c; ura = u })
     (record { has = true; epoch = e'; ssr = s'; iodn = i'; corr = k'; radial = r'; along = a'; cross = c'; ura = u' })
 orbit_made e s i k r a c u = rw (e, s, i, k, r, a, c, u)
+
+-- an offset a little further on
+pub fits_on : {at : ℕ} (k : ℕ) → at < 9216 → k < 100 → Fits w64 (at + k)
+fits_on k h l = search rules
 
 -- whether an orbit is held, by the flag alone
 has_by : (b : Bool) (h : HeldOrbit) → h.has ≡ true → b ≡ (pick b h no_orbit).has

@@ -1,7 +1,4 @@
-use borrow.Author.Rules.{rules}
-use native.Mathlib.Omega.{arith}
 use Prim.Native.Nat.{◌-◌, ◌≤◌}
-use mathlib.Core.Logic.{⊎_elim}
 use Rattle.examples.proofs.caught_count.Given as goal
 
 abbrev pub invariant-loop-k : goal.invariant-loop-k

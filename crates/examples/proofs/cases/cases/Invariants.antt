@@ -1,4 +1,3 @@
-use borrow.Author.Rules.{rules}
 use Rattle.examples.proofs.cases.cases.Given as goal
 
 abbrev pub decreases-loop-left : goal.decreases-loop-left
