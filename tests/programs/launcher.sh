@@ -133,15 +133,11 @@ touch "$stand/crates.txt"
 stand tool status 0
 says ''
 ran 'from dist' 0 "dist has the program of these sources"
-stand tool --version
-ran "tool commit 0123456789ab, $(cat "$root/KIT-ID"), from dist" 0 "--version of what dist has"
 stand --which tool
 ran "$stand/dist/bin/tool" 0 "--which of what dist has"
 stand --prove tool status 0
 says '... building tool'
 ran 'done' 1 "--prove, whatever dist has"
-stand --prove tool --version
-ran "tool $(cat "$root/KIT-ID"), proved and built here" 0 "--prove, --version"
 (export QUIEUVODAN_DIST=0 && cd "$stand" && PATH=$stand/tools:$PATH ./quieuvodan tool status 0) >"$folder/out" 2>"$folder/err"
 status=$? why=
 ran 'done' 0 "QUIEUVODAN_DIST=0"
