@@ -55,14 +55,14 @@ build_standin() {
 # The library if there is one, else the stand-in; QVD_STANDIN=1 asks for the
 # stand-in, QVD_ARCHIVE=FILE for an archive that is already built.
 link_with() {
-    local folder=$1 built=$root/crates/quieuvodan_c/out/libquieuvodan_c.a
+    local folder=$1 built=$root/target/staticlib/libquieuvodan.a
     standin=no
     if [ "${QVD_STANDIN:-0}" != 1 ] && [ -n "${QVD_ARCHIVE:-}" ]; then
         archive=$QVD_ARCHIVE
     elif [ "${QVD_STANDIN:-0}" != 1 ] && [ -d "$root/crates/quieuvodan" ]; then
         if [ ! -f "$built" ] || [ -n "$(find "$root"/crates/*/src -newer "$built" -print -quit)" ]; then
             echo "building the library" >&2
-            (cd "$root/crates/quieuvodan_c" && rt lib) >"$folder/staticlib.log" 2>&1 ||
+            "$root/tools/staticlib" >"$folder/staticlib.log" 2>&1 ||
                 { tail -n 20 "$folder/staticlib.log" >&2; echo "the library was not built" >&2; exit 2; }
         fi
         cp "$built" "$folder/libquieuvodan.a"
