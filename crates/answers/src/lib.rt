@@ -5,7 +5,7 @@ ghost use Rattle.std.specs.Prelude.{◌≡◌};
 ghost use Rattle.verdict.specs.Verdict.{says};
 ghost use Rattle.answers.specs.Detail.{detail_in};
 
-use verdict::Verdict;
+use verdict::{Refusal, Verdict};
 
 // The bytes of a row.
 pub const ROW_SIZE: usize = 27;
@@ -18,9 +18,9 @@ pub fn detail(v: Verdict) -> u32
     ensures { result ≡ detail_in (says v) }
 {
     match v {
-        Verdict::Taken => 0,
-        Verdict::Refused(n) => n as u32,
-        Verdict::Parity(first, failing) => 6 + 256 * (first as u32) + 65536 * (failing as u32),
-        Verdict::Places(set) => 19 + 256 * (set as u32),
+        Ok(()) => 0,
+        Err(Refusal::Number(n)) => n as u32,
+        Err(Refusal::Parity(first, failing)) => 6 + 256 * (first as u32) + 65536 * (failing as u32),
+        Err(Refusal::Places(set)) => 19 + 256 * (set as u32),
     }
 }

@@ -1,7 +1,6 @@
 -- The first n of a list, filled up; a run of elements stored into a list, of any type.
 use mathlib.Core.Path.{◌≡◌, refl, sym, ap, ◌∙◌}
-use mathlib.Core.Bool.{Bool, true, false, ◌&&◌}
-use mathlib.Core.Logic.{dite, ◌≢◌, ◌⊎◌, inl, inr}
+use mathlib.Core.Logic.{dite, ◌≢◌}
 use Prim.Native.Nat.{ℕ, zero, suc, ◌+◌, ◌-◌, ◌≤◌, ◌<◌}
 use mathlib.Core.List.{List, [], ◌∷◌, ◌++◌, append_assoc, append-nil}
 use lib.ListN.{get_or, set, length, replicate, length-append, length-take, length-set, length-replicate, get_or-replicate, get_or-append, get_or-eq_default}
@@ -10,11 +9,8 @@ use native.Mathlib.Decide.{dec_lt, ℕ_discrete}
 use native.Mathlib.Nat.{add-suc, add-zero}
 use native.Mathlib.Numerals.{add-one}
 use native.Mathlib.Omega.{arith}
-use lib.Dec.{ltb}
-use borrow.Author.Tests.{ltb-true, ltb-false}
 use Rattle.bits.specs.Table.{table}
 use Rattle.bits.proofs.TableLaws.{length_table}
-use Rattle.bits.proofs.TestLaws.{both_hold}
 use Rattle.biases.specs.Biases.{filled, stored}
 
 module _ {A : Type 0} where
@@ -124,16 +120,3 @@ module _ {A : Type 0} where
       (λ l.
       set_out (filled n d ys) (length xs + m) (f m) (omega (arith, length_filled n d ys))
       ∙ sym (filled_full n d ys (f m ∷ []) (omega arith))))
-
--- a walk that goes on while two tests hold, and stops where one fails
-pub turn : (a b c d : ℕ) → ltb a b && ltb c d ≡ true → (a < b) × (c < d)
-turn a b c d e =
-    let h = both_hold (ltb a b) (ltb c d) e in
-    (ltb-true a b h.0, ltb-true c d h.1)
-
-pub stop : (a b c d : ℕ) → ltb a b && ltb c d ≡ false → (b ≤ a) ⊎ (d ≤ c)
-stop a b c d e = go (ltb a b) refl e
-  where
-    go : (x : Bool) → ltb a b ≡ x → x && ltb c d ≡ false → (b ≤ a) ⊎ (d ≤ c)
-    go true p q = inr (ltb-false c d q)
-    go false p q = inl (ltb-false a b p)

@@ -7,21 +7,21 @@ ghost use Rattle.biases.specs.Biases.{sat_at, bias_at, next_sat, bias_nth, sat_p
 use records::signed::signed12;
 
 // A satellite and how many biases it has.
-#[derive(Clone, Copy)]
+#[derive(Clone, Copy, PartialEq, Eq)]
 pub struct BiasSat {
     pub slot: u16,
     pub count: u8,
 }
 
 // Signal and tracking mode, and the bias, raw.
-#[derive(Clone, Copy)]
+#[derive(Clone, Copy, PartialEq, Eq)]
 pub struct Bias {
     pub mode: u8,
     pub value: i16,
 }
 
 // The part of a type 3: count satellites, and the biases of all of them, one behind the other.
-#[derive(Clone, Copy)]
+#[derive(Clone, Copy, PartialEq, Eq)]
 pub struct BiasPart {
     pub epoch: u32,
     pub ssr: u8,
@@ -30,18 +30,21 @@ pub struct BiasPart {
     pub biases: [Bias; 25],
 }
 
+// A blank satellite, and a bias that is not there.
+const NO_SAT: BiasSat = BiasSat { slot: 0, count: 0 };
+
+const NO_BIAS: Bias = Bias { mode: 0, value: 0 };
+
 // An absent part.
 pub fn no_biases() -> BiasPart
     ensures { result ≡ no_biases }
 {
-    let sats = [BiasSat { slot: 0, count: 0 }; 31];
-    let biases = [Bias { mode: 0, value: 0 }; 25];
     BiasPart {
         epoch: 0,
         ssr: 0,
         count: 0,
-        sats,
-        biases,
+        sats: [NO_SAT; 31],
+        biases: [NO_BIAS; 25],
     }
 }
 
@@ -82,29 +85,23 @@ fn read_sats(s: &[u8], at: u32, count: u8) -> [BiasSat; 31]
     requires { (at < 70000) × (count < 32) }
     ensures { result ≡ filled 31 blank_sat (sats_at s.now at count) }
 {
-    let mut out = [BiasSat { slot: 0, count: 0 }; 31];
+    let mut out = [NO_SAT; 31];
     let mut p = at;
-    let mut i: u8 = 0;
-    while i < count {
-        out[i as usize] = sat_at(s, p);
+    for i in 0..count as usize {
+        out[i] = sat_at(s, p);
         p = next_sat(s, p);
-        i += 1;
     }
     out
 }
 
-// A row with the biases of the satellite at bit at stored from entry used on; those past the end are lost.
-fn more_biases(s: &[u8], at: u32, count: u8, row: [Bias; 25], used: u32) -> [Bias; 25]
+// Stores the biases of the satellite at bit at into a row from entry used on; those past the end are lost.
+fn store_biases(s: &[u8], at: u32, count: u8, row: &mut [Bias; 25], used: u32)
     requires { (at < 100000) × (used < 100000) }
-    ensures { result ≡ stored row used (bias_nth s.now at) count }
+    ensures { row.new ≡ stored row.old used (bias_nth s.now at) count }
 {
-    let mut out = row;
-    let mut j: u32 = 0;
-    while (j < count as u32) & (used + j < 25) {
-        out[(used + j) as usize] = bias_at(s, at + 13 + 16 * j);
-        j += 1;
+    for j in 0..(count as u32).min(25u32.saturating_sub(used)) {
+        row[(used + j) as usize] = bias_at(s, at + 13 + 16 * j);
     }
-    out
 }
 
 // The biases of count satellites in a row, one behind the other, and none behind them.
@@ -112,18 +109,14 @@ fn read_row(s: &[u8], at: u32, count: u8) -> [Bias; 25]
     requires { (at < 70000) × (count < 32) }
     ensures { result ≡ filled 25 no_bias (biases_at s.now at count) }
 {
-    let mut out = [Bias { mode: 0, value: 0 }; 25];
+    let mut out = [NO_BIAS; 25];
     let mut used: u32 = 0;
     let mut p = at;
-    let mut i: u8 = 0;
-    while i < count {
+    for _ in 0..count {
         let sat = sat_at(s, p);
-        let n = sat.count;
-        let next = more_biases(s, p, n, out, used);
-        out = next;
-        used += n as u32;
+        store_biases(s, p, sat.count, &mut out, used);
+        used += sat.count as u32;
         p = next_sat(s, p);
-        i += 1;
     }
     out
 }
@@ -134,10 +127,8 @@ fn end_from(s: &[u8], at: u32, count: u8) -> u32
     ensures { result ≡ sat_place s.now at count }
 {
     let mut p = at;
-    let mut i: u8 = 0;
-    while i < count {
+    for _ in 0..count {
         p = next_sat(s, p);
-        i += 1;
     }
     p
 }
@@ -151,13 +142,13 @@ pub fn read_heads(s: &[u8], at: u16) -> BiasPart
     let ssr = bits::get8(s, a + 17 + 4, 2);
     let count = bits::get8(s, a + 17 + 4 + 2 + 0, 5);
     let sats = read_sats(s, at as u32 + 28, count);
-    let none = [Bias { mode: 0, value: 0 }; 25];
+    let none = no_biases();
     BiasPart {
         epoch,
         ssr,
         count,
         sats,
-        biases: none,
+        ..none
     }
 }
 
@@ -166,15 +157,8 @@ pub fn read_biases(s: &[u8], at: u16) -> BiasPart
     ensures { result ≡ bias_part_at s.now at }
 {
     let heads = read_heads(s, at);
-    let sats = heads.sats;
     let biases = read_row(s, at as u32 + 28, heads.count);
-    BiasPart {
-        epoch: heads.epoch,
-        ssr: heads.ssr,
-        count: heads.count,
-        sats,
-        biases,
-    }
+    BiasPart { biases, ..heads }
 }
 
 // Where the part from bit at on ends: the bit after its last bias, those of blanks too.

@@ -13,3 +13,5 @@ pub mod WindowLaws
 pub mod TestLaws
 pub mod SignLaws
 pub mod BytesStay
+pub mod MadeLaws
+pub mod AllLaws

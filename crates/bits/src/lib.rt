@@ -1,7 +1,7 @@
 // Bits and fields of bytes, high bit first. Bits past the end are 0.
 #![tactic(auto)]
 
-ghost use Rattle.std.specs.Prelude.{◌≡◌, ◌+◌, ◌-◌, ◌*◌, ◌/◌, ◌%◌, ◌<◌, ◌≤◌, ◌^◌, min, length, get_or};
+ghost use Rattle.std.specs.Prelude.{◌≡◌, ◌+◌, ◌-◌, ◌*◌, ◌/◌, ◌%◌, ◌<◌, ◌≤◌, ◌^◌, length, get_or};
 ghost use Rattle.bits.specs.Bits.{bit_at, field_at, got_at};
 
 // Bit i; 0 past the end.
@@ -30,14 +30,8 @@ fn more(x: u64, b: u64, r: usize, m: usize) -> u64
     x * p + (b >> h) % p
 }
 
-// The lesser of two numbers.
-fn least(a: usize, b: usize) -> usize
-    ensures { result ≡ min a b }
-{
-    if a < b { a } else { b }
-}
-
 // The field of n bits from bit at on, a byte a turn; more than 64 bits: 0.
+// Kept: no plainer: a turn takes as many bits as its byte has left, so no range counts the turns.
 fn by_bytes(s: &[u8], at: usize, n: usize) -> u64
     ensures { result ≡ got_at 64 s.now at n }
 {
@@ -50,7 +44,7 @@ fn by_bytes(s: &[u8], at: usize, n: usize) -> u64
     let mut r = at % 8;
     while 0 < left {
         let b = byte_at(s, j);
-        let m = least(left, 8 - r);
+        let m = left.min(8 - r);
         x = more(x, b, r, m);
         left -= m;
         j += 1;
@@ -59,26 +53,12 @@ fn by_bytes(s: &[u8], at: usize, n: usize) -> u64
     x
 }
 
-// A byte as a number of 64 bits.
-fn wide(x: u8) -> u64
-    ensures { (result ≡ x) × (result < 256) }
-{
-    x as u64
-}
-
-// Four bytes in a row as one number.
-fn joined(a: u8, b: u8, c: u8, d: u8) -> u64
-    ensures { result ≡ a * 2 ^ 24 + b * 2 ^ 16 + c * 2 ^ 8 + d }
-{
-    wide(a) * 0x1000000 + wide(b) * 0x10000 + wide(c) * 0x100 + wide(d)
-}
-
 // The 32 bits from byte j on.
 fn four(s: &[u8], j: usize) -> u64
     requires { (j + 3 < length s.now) × (j < 2 ^ 62) }
     ensures { result ≡ field_at s.now (8 * j) 32 }
 {
-    joined(s[j], s[j + 1], s[j + 2], s[j + 3])
+    u64::from(u32::from_be_bytes([s[j], s[j + 1], s[j + 2], s[j + 3]]))
 }
 
 // The n bits after the first r of the low m bits of w.
@@ -96,14 +76,10 @@ pub fn get(s: &[u8], at: usize, n: usize) -> u64
     ensures { result ≡ got_at 64 s.now at n }
 {
     let j = at / 8;
-    if 0 < n {
-        if n < 57 {
-            if j + 8 <= s.len() {
-                let high = four(s, j);
-                let low = four(s, j + 4);
-                return part(high * 0x100000000 + low, 64, at % 8, n);
-            }
-        }
+    if 0 < n && n < 57 && j + 8 <= s.len() {
+        let high = four(s, j);
+        let low = four(s, j + 4);
+        return part(high * 0x100000000 + low, 64, at % 8, n);
     }
     by_bytes(s, at, n)
 }

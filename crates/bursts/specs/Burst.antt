@@ -1,9 +1,9 @@
 -- 02, CR 8: a run of errors in a message as read without a ledger.
-use Rattle.std.specs.Prelude.{ℕ, ◌≡◌, ◌≢◌, List}
+use Rattle.std.specs.Prelude.{ℕ, ◌≡◌, ◌≢◌, List, Err}
 use Rattle.contents.specs.Parts.{no_contents}
 use Rattle.verdict.specs.Verdict.{says, number_in}
 use Rattle.message.specs.Read.{Answer, read_message}
-use Rattle.verdict.specs.declared.Verdict.TheVariants.{Refused}
+use Rattle.verdict.specs.declared.Refusal.TheVariants.{Number}
 use Rattle.bursts.specs.Run.{Run}
 
 -- 02, CR 8: the number that the message is refused with, as read without a ledger; 0 if it is taken
@@ -16,7 +16,7 @@ Passes s = (refusal s ≢ 1) × (refusal s ≢ 2) × (refusal s ≢ 7)
 
 -- 01, Refusal numbers: refused with n, and nothing else said
 abbrev pub refused_with : ℕ → Answer
-refused_with n = record { said = says (Refused n); contents = no_contents }
+refused_with n = record { said = says (Err (Number n)); contents = no_contents }
 
 -- 02, CR 8: "one or more of its 486 bits" changed, "the changed message is refused 7", whatever the message and the run
 abbrev pub Caught : ℕ → Type 0

@@ -1,7 +1,7 @@
 -- 02, CR 6 and CR 8: a run of errors in subframe 2 of B-CNAV1.
-use Rattle.std.specs.Prelude.{ℕ, ◌≡◌, ◌≢◌, List, pos, replicate}
+use Rattle.std.specs.Prelude.{ℕ, ◌≡◌, ◌≢◌, List, pos, replicate, Err}
 use Rattle.verdict.specs.Verdict.{says, number_in}
-use Rattle.verdict.specs.declared.Verdict.TheVariants.{Refused}
+use Rattle.verdict.specs.declared.Refusal.TheVariants.{Number}
 use Rattle.subframe2.specs.Read.{Answer, read_subframe2}
 use Rattle.bursts.specs.Run.{Run}
 
@@ -15,7 +15,7 @@ Subframe2Passes s = (subframe2_number s ≢ 35) × (subframe2_number s ≢ 36)
 
 -- 02, CR 6: refused with n, and nothing else said: all 31 fields are 0
 abbrev pub subframe2_refused_with : ℕ → Answer
-subframe2_refused_with n = record { said = says (Refused n); fields = replicate 31 (pos 0) }
+subframe2_refused_with n = record { said = says (Err (Number n)); fields = replicate 31 (pos 0) }
 
 -- 02, CR 8, of the 600 bits of a subframe: one or more changed, all within k neighbouring positions, it is refused 36
 abbrev pub Subframe2Caught : ℕ → Type 0

@@ -15,6 +15,7 @@ use contents::parts::{ClockPart, Contents, MaskPart, OrbitPart};
 use layout::{Layout, layout_of};
 use records::clock::{Clock, blank_clock};
 use records::orbit::{Orbit, blank_orbit};
+use std::array;
 use ura_codes::CodePart;
 
 // The clock record as its type carries it: without a slot of its own, or blank where its slot is 0.
@@ -22,49 +23,38 @@ fn canon_clock(slotted: bool, k: Clock) -> Clock
     ensures { result ≡ canon_clock slotted k }
 {
     if !slotted {
-        return Clock {
-            slot: 0,
-            corr: k.corr,
-            c0: k.c0,
-        };
+        Clock { slot: 0, ..k }
+    } else if k.slot == 0 {
+        blank_clock()
+    } else {
+        k
     }
-    if k.slot == 0 {
-        return blank_clock();
-    }
-    k
 }
 
 // Clock record i, from 0; blank past the count.
-fn canon_clock_nth(slotted: bool, n: u8, ks: [Clock; 23], i: usize) -> Clock
+fn canon_clock_nth(slotted: bool, n: u8, ks: &[Clock; 23], i: usize) -> Clock
     requires { i < 23 }
-    ensures { result ≡ canon_clock_nth slotted n ks i }
+    ensures { result ≡ canon_clock_nth slotted n ks.now i }
 {
     if i < n as usize {
-        let k = ks[i];
-        canon_clock(slotted, k)
+        canon_clock(slotted, ks[i])
     } else {
         blank_clock()
     }
 }
 
 // The clock records of a part.
-fn canon_clock_rows(slotted: bool, n: u8, ks: [Clock; 23]) -> [Clock; 23]
-    ensures { result ≡ canon_clock_rows slotted n ks }
+fn canon_clock_rows(slotted: bool, n: u8, ks: &[Clock; 23]) -> [Clock; 23]
+    ensures { result ≡ canon_clock_rows slotted n ks.now }
 {
-    let mut out = [blank_clock(); 23];
-    let mut i: usize = 0;
-    while i < 23 {
-        out[i] = canon_clock_nth(slotted, n, ks, i);
-        i += 1;
-    }
-    out
+    array::from_fn(|i| canon_clock_nth(slotted, n, ks, i))
 }
 
-// A field that a type does not have is 0.
-fn kept_if(w: u8, v: u16) -> u16
-    ensures { result ≡ pick (eqb w 0) 0 v }
+// A field of w bits, which is none where a type does not have it.
+fn kept_if<T: Copy>(w: u8, none: T, v: T) -> T
+    ensures { result ≡ pick (eqb w 0) none v }
 {
-    if w == 0 { 0 } else { v }
+    if w == 0 { none } else { v }
 }
 
 // The clock part as its type carries it.
@@ -74,17 +64,13 @@ fn canon_clocks(l: Layout, k: ClockPart) -> ClockPart
     if l.clocks == 0 {
         return contents::parts::no_clocks();
     }
-    let ks = k.clocks;
-    let clocks = canon_clock_rows(l.slotted, l.clocks, ks);
-    let iodp = if l.iodp == 0 { 0 } else { k.iodp };
-    let start = kept_if(l.start, k.start);
+    let clocks = canon_clock_rows(l.slotted, l.clocks, &k.clocks);
     ClockPart {
-        epoch: k.epoch,
-        ssr: k.ssr,
-        iodp,
-        start,
+        iodp: kept_if(l.iodp, 0, k.iodp),
+        start: kept_if(l.start, 0, k.start),
         count: l.clocks,
         clocks,
+        ..k
     }
 }
 
@@ -92,36 +78,26 @@ fn canon_clocks(l: Layout, k: ClockPart) -> ClockPart
 fn canon_orbit(o: Orbit) -> Orbit
     ensures { result ≡ canon_orbit o }
 {
-    if o.slot == 0 {
-        return blank_orbit();
-    }
-    o
+    if o.slot == 0 { blank_orbit() } else { o }
 }
 
 // Orbit record i, from 0; blank past the count.
-fn canon_orbit_nth(n: u8, os: [Orbit; 6], i: usize) -> Orbit
+fn canon_orbit_nth(n: u8, os: &[Orbit; 6], i: usize) -> Orbit
     requires { i < 6 }
-    ensures { result ≡ canon_orbit_nth n os i }
+    ensures { result ≡ canon_orbit_nth n os.now i }
 {
     if i < n as usize {
-        let o = os[i];
-        canon_orbit(o)
+        canon_orbit(os[i])
     } else {
         blank_orbit()
     }
 }
 
 // The orbit records of a part.
-fn canon_orbit_rows(n: u8, os: [Orbit; 6]) -> [Orbit; 6]
-    ensures { result ≡ canon_orbit_rows n os }
+fn canon_orbit_rows(n: u8, os: &[Orbit; 6]) -> [Orbit; 6]
+    ensures { result ≡ canon_orbit_rows n os.now }
 {
-    let mut out = [blank_orbit(); 6];
-    let mut i: usize = 0;
-    while i < 6 {
-        out[i] = canon_orbit_nth(n, os, i);
-        i += 1;
-    }
-    out
+    array::from_fn(|i| canon_orbit_nth(n, os, i))
 }
 
 // The orbit part as its type carries it.
@@ -131,13 +107,11 @@ fn canon_orbits(l: Layout, o: OrbitPart) -> OrbitPart
     if l.orbits == 0 {
         return contents::parts::no_orbits();
     }
-    let os = o.orbits;
-    let orbits = canon_orbit_rows(l.orbits, os);
+    let orbits = canon_orbit_rows(l.orbits, &o.orbits);
     OrbitPart {
-        epoch: o.epoch,
-        ssr: o.ssr,
         count: l.orbits,
         orbits,
+        ..o
     }
 }
 
@@ -170,23 +144,13 @@ fn canon_code_part(kind: u8, u: CodePart) -> CodePart
 pub fn canonical(c: Contents) -> Contents
     ensures { result ≡ canon c }
 {
-    let m = c.mask;
-    let k = c.clock;
-    let o = c.orbit;
-    let b = c.bias;
-    let u = c.code;
-    let l = layout_of(c.kind, k.count, o.count);
-    let mask = canon_mask(l.mask, m);
-    let clock = canon_clocks(l, k);
-    let orbit = canon_orbits(l, o);
-    let bias = canon_bias_part(c.kind, b);
-    let code = canon_code_part(c.kind, u);
+    let l = layout_of(c.kind, c.clock.count, c.orbit.count);
     Contents {
         kind: c.kind,
-        mask,
-        clock,
-        orbit,
-        bias,
-        code,
+        mask: canon_mask(l.mask, c.mask),
+        clock: canon_clocks(l, c.clock),
+        orbit: canon_orbits(l, c.orbit),
+        bias: canon_bias_part(c.kind, c.bias),
+        code: canon_code_part(c.kind, c.code),
     }
 }

@@ -173,12 +173,13 @@ by_eights r h =
     ∙ ap (shifted 8) (xor_shifted q 16 l hl ∙ split r 16)
 
 -- a turn of 48 bits, and none left
-pub turn : (s : List ℕ) (r a n : ℕ) → 0 < n → r < 2 ^ 24 → check_bits (fed_of r (field_at s a 48)) (bits_from s (a + 48) (48 * (n - 1))) ≡ check_bits r (bits_from s a (48 * n))
-turn s r a n l h =
-    let e : 48 + 48 * (n - 1) ≡ 48 * n = omega arith in
-    ap (λ (q : ℕ). check_bits q (bits_from s (a + 48) (48 * (n - 1)))) (fed_all s r a h)
-    ∙ checks_split s r a 48 (48 * (n - 1))
-    ∙ ap (λ (k : ℕ). check_bits r (bits_from s a k)) e
+pub turn : (s : List ℕ) (r a k n : ℕ) → k < n → r < 2 ^ 24 → check_bits (fed_of r (field_at s (a + 48 * k) 48)) (bits_from s (a + 48 * (k + 1)) (48 * (n - (k + 1)))) ≡ check_bits r (bits_from s (a + 48 * k) (48 * (n - k)))
+turn s r a k n l h =
+    let e : 48 + 48 * (n - (k + 1)) ≡ 48 * (n - k) = omega arith in
+    let g : a + 48 * (k + 1) ≡ a + 48 * k + 48 = omega arith in
+    rw g (ap (λ (q : ℕ). check_bits q (bits_from s (a + 48 * k + 48) (48 * (n - (k + 1))))) (fed_all s r (a + 48 * k) h))
+    ∙ checks_split s r (a + 48 * k) 48 (48 * (n - (k + 1)))
+    ∙ ap (λ (m : ℕ). check_bits r (bits_from s (a + 48 * k) m)) e
 
 pub turn_end : (s : List ℕ) (r a n : ℕ) → n ≤ 0 → r ≡ check_bits r (bits_from s a (48 * n))
 turn_end s r a n h = check_end s a (48 * n) r (omega arith)

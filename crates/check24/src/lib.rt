@@ -1,13 +1,13 @@
 // The check of 24 bits (01, Parity and check bits) over a run of bits of a byte slice, 48 bits a turn, by a table.
 #![tactic(auto)]
 
-ghost use Rattle.std.specs.Prelude.{◌≡◌, ◌/◌, ◌%◌, ◌<◌, ◌^◌};
+ghost use Rattle.std.specs.Prelude.{◌≡◌, ◌/◌, ◌%◌, ◌<◌, ◌^◌, get_or};
 ghost use Rattle.std.specs.Int.Bits.{bit_xor};
 ghost use Rattle.check24.specs.Check.{check_of, check_ok};
 ghost use Rattle.check24.specs.Eight.{shifted, eights};
 
 // What eight bits more make of a register that holds k in its top eight bits and nothing else.
-const EIGHTS: [u32; 256] = [
+static EIGHTS: [u32; 256] = [
     0x000000, 0x864CFB, 0x8AD50D, 0x0C99F6, 0x93E6E1, 0x15AA1A, 0x1933EC, 0x9F7F17, 0xA18139,
     0x27CDC2, 0x2B5434, 0xAD18CF, 0x3267D8, 0xB42B23, 0xB8B2D5, 0x3EFE2E, 0xC54E89, 0x430272,
     0x4F9B84, 0xC9D77F, 0x56A868, 0xD0E493, 0xDC7D65, 0x5A319E, 0x64CFB0, 0xE2834B, 0xEE1ABD,
@@ -39,38 +39,38 @@ const EIGHTS: [u32; 256] = [
     0xD11CCE, 0x575035, 0x5BC9C3, 0xDD8538,
 ];
 
-// The table of all of them, to be lent to the loop.
-fn eight_table() -> [u32; 256]
-    ensures { result ≡ eights }
+// Entry k of the table.
+fn eight(k: usize) -> u32
+    requires { k < 256 }
+    ensures { result ≡ get_or eights k 0 }
 {
-    EIGHTS
+    EIGHTS[k]
 }
 
 // The register after eight zero bits more, by the table.
-fn shift8(t: &[u32; 256], r: u32) -> u32
-    requires { (t.now ≡ eights) × (r < 2 ^ 24) }
+fn shift8(r: u32) -> u32
+    requires { r < 2 ^ 24 }
     ensures { result ≡ shifted 8 r }
 {
-    let high = r >> 16;
-    t[high as usize] ^ (r % 0x10000 * 0x100)
+    eight((r >> 16) as usize) ^ (r % 0x10000 * 0x100)
 }
 
 // The register after 24 zero bits more.
-fn shift24(t: &[u32; 256], r: u32) -> u32
-    requires { (t.now ≡ eights) × (r < 2 ^ 24) }
+fn shift24(r: u32) -> u32
+    requires { r < 2 ^ 24 }
     ensures { result ≡ shifted 24 r }
 {
-    shift8(t, shift8(t, shift8(t, r)))
+    shift8(shift8(shift8(r)))
 }
 
 // The register after 48 bits more, which x says: the high half of them is added to the register, and then the low half.
-fn feed(t: &[u32; 256], r: u32, x: u64) -> u32
-    requires { (t.now ≡ eights) × (r < 2 ^ 24) × (x < 2 ^ 48) }
+fn feed(r: u32, x: u64) -> u32
+    requires { (r < 2 ^ 24) × (x < 2 ^ 48) }
     ensures { result ≡ shifted 24 (bit_xor (shifted 24 (bit_xor r (x / 2 ^ 24))) (x % 2 ^ 24)) }
 {
     let high = (x / 0x1000000) as u32;
     let low = (x % 0x1000000) as u32;
-    shift24(t, shift24(t, r ^ high) ^ low)
+    shift24(shift24(r ^ high) ^ low)
 }
 
 // The check of the n bits from bit at on; bits past the end are 0. The first n % 48 of them are one number too: a register of zero does not see
@@ -78,16 +78,11 @@ fn feed(t: &[u32; 256], r: u32, x: u64) -> u32
 pub fn check(s: &[u8], at: u32, n: u32) -> u32
     ensures { result ≡ check_of s.now at n }
 {
-    let t = eight_table();
+    let from = at as usize;
     let first = (n % 48) as usize;
-    let mut a = at as usize;
-    let mut r = feed(&t, 0, bits::get(s, a, first));
-    a += first;
-    let mut left = n / 48;
-    while 0 < left {
-        r = feed(&t, r, bits::get(s, a, 48));
-        a += 48;
-        left -= 1;
+    let mut r = feed(0, bits::get(s, from, first));
+    for k in 0..(n / 48) as usize {
+        r = feed(r, bits::get(s, from + first + 48 * k, 48));
     }
     r
 }

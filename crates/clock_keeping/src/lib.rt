@@ -14,13 +14,9 @@ use slots::{Place, Slot, slot_named};
 fn clocks_by_slot(t: &mut [u8], p: ClockPart)
     ensures { t.new ≡ replace_clocks t.old (clocks_of (mask_at t.old) 7 p) }
 {
-    let ks = p.clocks;
-    let mut j: usize = 0;
-    while j < 23 {
-        let k = ks[j];
+    for &k in &p.clocks {
         let h = held_clock(false, p.epoch, p.ssr, k);
         held_clocks::replace_clock(t, slot_named(k.slot), h);
-        j += 1;
     }
 }
 

@@ -2,35 +2,22 @@
 #![tactic(auto)]
 
 ghost use Rattle.std.specs.Prelude.{◌≡◌, ◌+◌, ◌<◌, ◌≤◌};
-ghost use Rattle.contents.specs.Parts.{clock_nth, clocks_at, clocks_in, contents_at};
+ghost use Rattle.contents.specs.Parts.{clocks_at, clocks_in, contents_at};
 
-use contents::parts::ClockPart;
+use contents::parts::{ClockPart, no_clocks};
 use contents::read::layout_at;
 use layout::Layout;
 use records::clock::{Clock, blank_clock, clock_at};
-
-// Clock record i, from 0, of a row of them; blank past the count.
-fn nth_clock(s: &[u8], at: u32, slotted: bool, count: u8, i: u32) -> Clock
-    requires { (at < 100000) × (i < 23) }
-    ensures { result ≡ clock_nth slotted s.now at count i }
-{
-    if i >= count as u32 {
-        return blank_clock();
-    }
-    let each: u32 = if slotted { 27 } else { 18 };
-    clock_at(s, at + each * i, slotted)
-}
 
 // 23 clock records in a row, those past the count blank.
 fn read_clocks(s: &[u8], at: u32, slotted: bool, count: u8) -> [Clock; 23]
     requires { at < 100000 }
     ensures { result ≡ clocks_at slotted s.now at count }
 {
+    let each: u32 = if slotted { 27 } else { 18 };
     let mut out = [blank_clock(); 23];
-    let mut i: u32 = 0;
-    while (i < 23) & (i < count as u32) {
-        out[i as usize] = nth_clock(s, at, slotted, count, i);
-        i += 1;
+    for i in 0..(count as u32).min(23) {
+        out[i as usize] = clock_at(s, at + each * i, slotted);
     }
     out
 }
@@ -40,19 +27,12 @@ fn clocks_in(s: &[u8], at: u8, l: Layout) -> ClockPart
     requires { (l.iodp ≤ 4) × (l.start ≤ 9) }
     ensures { result ≡ clocks_in s.now at l }
 {
+    if l.clocks == 0 {
+        return no_clocks();
+    }
     let from = at as u32 + l.head as u32;
     let records = from + (23 + l.iodp as u32 + l.start as u32);
     let clocks = read_clocks(s, records, l.slotted, l.clocks);
-    if l.clocks == 0 {
-        return ClockPart {
-            epoch: 0,
-            ssr: 0,
-            iodp: 0,
-            start: 0,
-            count: 0,
-            clocks,
-        };
-    }
     let a = from as usize;
     let p = l.iodp as usize;
     let w = l.start as usize;

@@ -8,15 +8,14 @@ mod reading;
 
 use console::args::{Args, own, own_count};
 use console::input::{open, standard};
-use console::turns::status_of;
 
 // The file of a name; - is standard input. The status.
 fn show_file(rt: &HostRuntime, name: &[u8]) -> u8 {
-    if console::words::same(name, b"-") {
-        return status_of(reading::show_subframes(rt, &mut standard(rt), b"standard input"));
+    if name == b"-".as_slice() {
+        return reading::show_subframes(rt, &mut standard(rt), b"standard input").status();
     }
     match open(rt, name) {
-        Ok(mut input) => status_of(reading::show_subframes(rt, &mut input, name)),
+        Ok(mut input) => reading::show_subframes(rt, &mut input, name).status(),
         Err(e) => {
             console::say::say_errno(rt, b"cnav1", name, e);
             1

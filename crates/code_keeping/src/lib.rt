@@ -24,18 +24,15 @@ fn keep_code(t: &mut [u8], slot: Slot, code: u8)
 pub fn take_codes(t: &mut [u8], u: CodePart)
     ensures { t.new ≡ kept_codes t.old (codes_of (mask_at t.old) 5 u) }
 {
-    let codes = u.codes;
     let mut from = Slot(0);
     let mut n = first_code(u);
-    let mut j: usize = 0;
-    while j < 70 {
+    for &code in &u.codes {
         let slot = mask_walk::nth_after(t, from, n);
         if slot.0 == 0 {
             return;
         }
-        keep_code(t, slot, codes[j]);
+        keep_code(t, slot, code);
         from = slot;
         n = Place(1);
-        j += 1;
     }
 }

@@ -10,39 +10,26 @@ use fitting::{head_fits, put_part_head};
 use ura_codes::CodePart;
 
 // Whether each code is within its six bits.
-fn row_fits(codes: [u8; 70]) -> bool
-    ensures { result ≡ all_fit code_widths (code_row codes) 70 }
+fn row_fits(codes: &[u8; 70]) -> bool
+    ensures { result ≡ all_fit code_widths (code_row codes.now) 70 }
 {
-    let mut i: usize = 0;
-    while i < 70 {
-        if codes[i] > 63 {
-            return false;
-        }
-        i += 1;
-    }
-    true
+    codes.iter().all(|c| *c < 64)
 }
 
 // Whether every field of the part is within its width.
 pub fn codes_fit(u: CodePart) -> bool
     ensures { result ≡ codes_fit u }
 {
-    let codes = u.codes;
-    let a = head_fits(4, 3, u.epoch, u.ssr, u.iodp, u.sub as u16);
-    let b = row_fits(codes);
-    a & b
+    head_fits(4, 3, u.epoch, u.ssr, u.iodp, u.sub as u16) && row_fits(&u.codes)
 }
 
 // The codes are put in a row from bit at on.
-fn put_row(room: &mut [u8], at: u32, codes: [u8; 70])
+fn put_row(room: &mut [u8], at: usize, codes: &[u8; 70])
     requires { at < 100000 }
-    ensures { room.new ≡ put_rows room.old at code_widths (code_row codes) 70 }
+    ensures { room.new ≡ put_rows room.old at code_widths (code_row codes.now) 70 }
 {
-    let mut i: u32 = 0;
-    while i < 70 {
-        let v = codes[i as usize];
-        put_bits::put(room, (at + 6 * i) as usize, 6, v as u64);
-        i += 1;
+    for (i, c) in codes.iter().enumerate() {
+        put_bits::put(room, at + 6 * i, 6, *c as u64);
     }
 }
 
@@ -50,8 +37,7 @@ fn put_row(room: &mut [u8], at: u32, codes: [u8; 70])
 pub fn put_codes(room: &mut [u8], at: u8, u: CodePart)
     ensures { room.new ≡ codes_put room.old at u }
 {
-    let codes = u.codes;
-    let from = at as u32 + 30;
+    let from = at as usize + 30;
     put_part_head(room, at as u32, 4, 3, u.epoch, u.ssr, u.iodp, u.sub as u16);
-    put_row(room, from, codes);
+    put_row(room, from, &u.codes);
 }

@@ -5,15 +5,15 @@ ghost use Rattle.io.specs.Counts.{IsPrefixLen};
 use crate::errors::{no_argument, too_long};
 use crate::input::Piece;
 use crate::put::cursor_in;
-use crate::words::{Number, number_of, same};
+use crate::words::number_of;
 use std::env::{Env, FillError};
 
-// The program's own arguments have the numbers from first up to count; status_on is the descriptor that takes its status, -1 where there is none.
+// The program's own arguments have the numbers from first up to count; status_on is the descriptor that takes its status, where there is one.
 #[derive(Clone, Copy)]
 pub struct Args {
     pub first: usize,
     pub count: usize,
-    pub status_on: i32,
+    pub status_on: Option<i32>,
 }
 
 // Argument i is put at the start of the room; argument 0 is the program's name. Of one that is missing or longer than the room nothing is
@@ -21,30 +21,21 @@ pub struct Args {
 pub fn argument(rt: &HostRuntime, i: usize, room: &mut [u8]) -> Piece
     ensures { IsPrefixLen result.count room.new }
 {
-    match rt.arg(i, room) {
-        Ok(n) => Piece {
-            count: cursor_in(room, n),
-            error: None,
-        },
-        Err(FillError::NotPresent) => Piece {
-            count: cursor_in(room, 0),
-            error: Some(no_argument()),
-        },
-        Err(FillError::TooLong) => Piece {
-            count: cursor_in(room, 0),
-            error: Some(too_long()),
-        },
+    let (n, error) = match rt.arg(i, room) {
+        Ok(n) => (n, None),
+        Err(FillError::NotPresent) => (0, Some(no_argument())),
+        Err(FillError::TooLong) => (0, Some(too_long())),
+    };
+    Piece {
+        count: cursor_in(room, n),
+        error,
     }
 }
 
 // Whether there is an argument i.
 fn is_there(rt: &HostRuntime, i: usize) -> bool {
     let mut room = [0u8; 1];
-    match rt.arg(i, &mut room) {
-        Ok(_) => true,
-        Err(FillError::NotPresent) => false,
-        Err(FillError::TooLong) => true,
-    }
+    !matches!(rt.arg(i, &mut room), Err(FillError::NotPresent))
 }
 
 // How many arguments there are, with the program's name.
@@ -61,36 +52,22 @@ fn argument_count(rt: &HostRuntime) -> usize {
 fn is_told(rt: &HostRuntime) -> bool {
     let mut room = [0u8; 16];
     let n = argument(rt, 1, &mut room).count;
-    same(&room[..n], b"--status-on")
+    &room[..n] == b"--status-on".as_slice()
 }
 
-// The descriptor that a number says, 3 to 999; -1 for any other.
-fn descriptor_of(n: Number) -> i32 {
-    let Number::Value(v) = n else {
-        return -1;
-    };
-    if v < 3 {
-        return -1;
-    }
-    if v > 999 {
-        return -1;
-    }
-    v as i32
-}
-
-// The descriptor that the second argument says, -1 where it says none.
-fn told(rt: &HostRuntime) -> i32 {
+// The descriptor that the second argument says, 3 to 999.
+fn told(rt: &HostRuntime) -> Option<i32> {
     let mut room = [0u8; 16];
     let n = argument(rt, 2, &mut room).count;
-    descriptor_of(number_of(&room[..n]))
+    match number_of(&room[..n])? {
+        v @ 3..=999 => Some(v as i32),
+        _ => None,
+    }
 }
 
-// The descriptor of --status-on N; -1 where the program was started without, or with an N that is not 3 to 999.
-fn status_on(rt: &HostRuntime) -> i32 {
-    if is_told(rt) {
-        return told(rt);
-    }
-    -1
+// The descriptor of --status-on N; none where the program was started without, or with an N that is not 3 to 999.
+fn status_on(rt: &HostRuntime) -> Option<i32> {
+    if is_told(rt) { told(rt) } else { None }
 }
 
 // The arguments that the program was started with. A --status-on without a number of 3 to 999 stays an argument of its own.
@@ -98,18 +75,11 @@ pub fn begin(rt: &HostRuntime) -> Args
     ensures { result.first ≤ 3 }
 {
     let count = argument_count(rt);
-    let on = status_on(rt);
-    if on < 3 {
-        return Args {
-            first: 1,
-            count,
-            status_on: -1,
-        };
-    }
+    let status_on = status_on(rt);
     Args {
-        first: 3,
+        first: if status_on.is_some() { 3 } else { 1 },
         count,
-        status_on: on,
+        status_on,
     }
 }
 
@@ -117,10 +87,7 @@ pub fn begin(rt: &HostRuntime) -> Args
 pub fn own_count(a: Args) -> usize
     ensures { result ≤ a.count - a.first }
 {
-    if a.first < a.count {
-        return a.count - a.first;
-    }
-    0
+    a.count.saturating_sub(a.first)
 }
 
 // The program's own argument i, from 0, is put at the start of the room, as argument does.
@@ -137,14 +104,13 @@ pub fn own(rt: &HostRuntime, a: Args, i: usize, room: &mut [u8]) -> Piece
 pub fn own_is(rt: &HostRuntime, a: Args, i: usize, word: &[u8]) -> bool {
     let mut room = [0u8; 64];
     let n = own(rt, a, i, &mut room).count;
-    same(&room[..n], word)
+    &room[..n] == word
 }
 
 // The program ends: where a descriptor was told, it gets one byte, the digit of the status.
 pub fn end(a: Args, status: u8) {
-    if a.status_on < 3 {
+    let Some(on) = a.status_on else {
         return;
-    }
-    let digit = [48 + status % 10; 1];
-    io::write_all(a.status_on, &digit);
+    };
+    io::write_all(on, &[b'0' + status % 10]);
 }

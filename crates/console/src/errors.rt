@@ -38,23 +38,14 @@ pub(crate) fn no_seek() -> Error {
     Error::from_raw_os_error(NO_SEEK)
 }
 
-// The system's number of an error; 0 where it has none from 1 to 255.
-fn number_of(e: Error) -> u8 {
-    let Some(code) = e.raw_os_error() else {
-        return 0;
-    };
-    if code < 1 {
-        return 0;
-    }
-    if code > 255 {
-        return 0;
-    }
-    code as u8
+// The system's number of an error, where it has one from 0 to 255.
+fn number_of(e: Error) -> Option<u8> {
+    u8::try_from(e.raw_os_error()?).ok()
 }
 
 // Whether an error is that of a descriptor that is not open.
 pub(crate) fn is_closed(e: Error) -> bool {
-    number_of(e) as i32 == BAD_DESCRIPTOR
+    e.raw_os_error() == Some(BAD_DESCRIPTOR)
 }
 
 // The system's words for the errors 1 to 40.
@@ -113,14 +104,14 @@ fn put_unknown(room: &mut [u8], at: usize, number: u8) -> usize
     ensures { IsPrefixLen result room.new }
 {
     let n = put_bytes(room, at, b"Unknown error ");
-    put_number(room, n, number as u64)
+    put_number(room, n, u64::from(number))
 }
 
 // What the system says of an error.
 pub fn put_error(room: &mut [u8], at: usize, e: Error) -> usize
     ensures { IsPrefixLen result room.new }
 {
-    let number = number_of(e);
+    let number = number_of(e).unwrap_or(0);
     match number {
         1..=40 => put_common(room, at, number),
         75 => put_bytes(room, at, b"Value too large for defined data type"),

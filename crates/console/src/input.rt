@@ -31,27 +31,18 @@ pub fn open(rt: &HostRuntime, name: &[u8]) -> Result<Input, Error> {
     let Ok(path) = str::from_utf8(name) else {
         return Err(not_text());
     };
-    match File::open(rt, path) {
-        Ok(file) => Ok(Input::Opened(file)),
-        Err(e) => Err(e),
-    }
+    Ok(Input::Opened(File::open(rt, path)?))
 }
 
 // Whether it is standard input.
 pub fn is_standard(input: &Input) -> bool {
-    match input {
-        Input::Standard(_) => true,
-        Input::Opened(_) => false,
-    }
+    matches!(input, Input::Standard(_))
 }
 
 // Why standard input cannot be read, where it is not open.
 pub fn closed(rt: &HostRuntime) -> Option<Error> {
     let mut none = [0u8; 0];
-    match rt.stdin().read(&mut none) {
-        Ok(_) => None,
-        Err(e) => { if is_closed(e) { Some(e) } else { None } }
-    }
+    rt.stdin().read(&mut none).err().filter(|&e| is_closed(e))
 }
 
 // The input goes to a position; where it cannot, the error says why.
@@ -106,13 +97,10 @@ pub fn read_on(input: &mut Input, room: &mut [u8], from: usize) -> Piece
 pub fn fill(input: &mut Input, room: &mut [u8]) -> Piece
     ensures { IsPrefixLen result.count room.new }
 {
-    let mut done: usize = 0;
+    let mut done = 0;
     while done < room.len() {
         let p = read_on(input, room, done);
-        if p.error.is_some() {
-            return p;
-        }
-        if p.count <= done {
+        if p.error.is_some() || p.count <= done {
             return p;
         }
         done = p.count;

@@ -1,5 +1,5 @@
 // Lines of an input, one by one, in a lent room.
-ghost use Rattle.std.specs.Prelude.{◌≡◌, ◌≤◌, ◌<◌, length};
+ghost use Rattle.std.specs.Prelude.{◌≡◌, ◌≤◌, ◌<◌, length, IfSome};
 ghost use Rattle.console.specs.Lines.{Inside};
 
 use crate::input::{Input, read_on};
@@ -47,31 +47,13 @@ pub fn begin() -> Lines
     without(Step::Line)
 }
 
-// The smaller of two numbers.
-fn least(a: usize, b: usize) -> usize
-    ensures { (result ≤ a) × (result ≤ b) }
-{
-    if a < b { a } else { b }
-}
-
-// One more, but for the largest number.
-fn raised(n: u64) -> u64 {
-    if n == u64::MAX { n } else { n + 1 }
-}
-
-// The position of the first line end between two positions; the second position where there is none.
-fn line_end(room: &[u8], from: usize, to: usize) -> usize
+// The position of the first line end between two positions.
+fn line_end(room: &[u8], from: usize, to: usize) -> Option<usize>
     requires { (from ≤ to) × (to ≤ length room.now) }
-    ensures { (from ≤ result) × (result ≤ to) }
+    ensures { IfSome result (λ e. (from ≤ e) × (e < to)) }
 {
-    let mut i = from;
-    while i < to {
-        if room[i] == 10 {
-            return i;
-        }
-        i += 1;
-    }
-    to
+    let i = room[from..to].iter().position(|&b| b == b'\n')?;
+    Some(from + i)
 }
 
 // What stands between two positions is moved to the room's start; the answer is its length.
@@ -79,13 +61,8 @@ fn moved(room: &mut [u8], from: usize, to: usize) -> usize
     requires { (from ≤ to) × (to ≤ length room.old) }
     ensures { result ≤ length room.new }
 {
-    let n = to - from;
-    let mut i: usize = 0;
-    while i < n {
-        room[i] = room[from + i];
-        i += 1;
-    }
-    n
+    room.copy_within(from..to, 0);
+    to - from
 }
 
 // The input ended after so many bytes of a line: they are its last line, if there are any.
@@ -134,9 +111,8 @@ fn read_line(input: &mut Input, room: &mut [u8], first: usize) -> Lines
         if to <= have {
             return last_line(have);
         }
-        let e = line_end(room, have, to);
-        if e < to {
-            return found(0, e, to);
+        if let Some(end) = line_end(room, have, to) {
+            return found(0, end, to);
         }
         have = to;
     }
@@ -148,12 +124,11 @@ fn before_return(room: &[u8], start: usize, end: usize) -> usize
     requires { (start ≤ end) × (end ≤ length room.now) }
     ensures { (start ≤ result) × (result ≤ end) }
 {
-    if start < end {
-        if room[end - 1] == 13 {
-            return end - 1;
-        }
+    if start < end && room[end - 1] == b'\r' {
+        end - 1
+    } else {
+        end
     }
-    end
 }
 
 // A line with its number, and without the carriage return that it may end with; none where it is then longer than 65536 bytes.
@@ -168,31 +143,21 @@ fn numbered(room: &[u8], l: Lines, number: u64) -> Lines
             step: Step::Long,
             start: 0,
             end: 0,
-            next: l.next,
-            to: l.to,
             number,
+            ..l
         };
     }
-    let step = l.step;
-    Lines {
-        step,
-        start,
-        end,
-        next: l.next,
-        to: l.to,
-        number,
-    }
+    Lines { end, number, ..l }
 }
 
 // The next line, without its number.
 fn line_after(input: &mut Input, room: &mut [u8], l: Lines) -> Lines
     ensures { Inside result room.new }
 {
-    let to = least(l.to, room.len());
-    let next = least(l.next, to);
-    let e = line_end(room, next, to);
-    if e < to {
-        return found(next, e, to);
+    let to = l.to.min(room.len());
+    let next = l.next.min(to);
+    if let Some(end) = line_end(room, next, to) {
+        return found(next, end, to);
     }
     let have = moved(room, next, to);
     read_line(input, room, have)
@@ -202,57 +167,40 @@ fn line_after(input: &mut Input, room: &mut [u8], l: Lines) -> Lines
 pub fn next_line(input: &mut Input, room: &mut [u8], l: Lines) -> Lines
     ensures { Inside result room.new }
 {
-    let number = raised(l.number);
     let next = line_after(input, room, l);
-    numbered(room, next, number)
+    numbered(room, next, l.number.saturating_add(1))
 }
 
 // One read behind a line that is longer than the room: what stands behind its end, or that it has not ended yet.
 fn read_past(input: &mut Input, room: &mut [u8], number: u64) -> Lines {
     let p = read_on(input, room, 0);
     let to = p.count;
-    let e = line_end(room, 0, to);
-    let mut r = without(past_step(p.error, e, to));
-    if e < to {
-        r.next = e + 1;
-        r.to = to;
+    let l = match (p.error, line_end(room, 0, to)) {
+        (Some(e), _) => without(Step::Failed(e)),
+        (None, Some(end)) => found(0, end, to),
+        (None, None) => without(if to == 0 { Step::End } else { Step::Long }),
+    };
+    Lines {
+        start: 0,
+        end: 0,
+        number,
+        ..l
     }
-    r.number = number;
-    r
-}
-
-// How far such a read came, by the error of one that failed, the position of a line end, and how much was read.
-fn past_step(error: Option<Error>, end: usize, to: usize) -> Step {
-    if let Some(e) = error {
-        return Step::Failed(e);
-    }
-    if to == 0 {
-        return Step::End;
-    }
-    if end < to { Step::Line } else { Step::Long }
 }
 
 // Whether the end of a line that is too long is still to come.
 fn is_unended(l: Lines) -> bool {
-    let step = l.step;
-    match step {
-        Step::Line => false,
-        Step::End => false,
-        Step::Long => l.next == 0,
-        Step::Failed(_) => false,
-    }
+    matches!(l.step, Step::Long) && l.next == 0
 }
 
 // After a line that is too long: its rest is passed over, so that the line behind it can come next. After any other nothing is to do.
 pub fn past_long(input: &mut Input, room: &mut [u8], l: Lines) -> Lines {
     let mut r = l;
-    let mut more = is_unended(l);
-    let mut left = u64::MAX;
-    while left > 0 && more {
-        let next = read_past(input, room, l.number);
-        r = next;
-        more = is_unended(next);
-        left -= 1;
+    for _ in 0..u64::MAX {
+        if !is_unended(r) {
+            break;
+        }
+        r = read_past(input, room, l.number);
     }
     r
 }

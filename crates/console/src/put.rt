@@ -3,16 +3,13 @@
 ghost use Rattle.io.specs.Counts.{IsPrefixLen};
 
 use ura::Ura;
-use verdict::Verdict;
+use verdict::{Refusal, Verdict};
 
 // The cursor itself, or the room's end where it lies past that.
 pub fn cursor_in(room: &[u8], at: usize) -> usize
     ensures { IsPrefixLen result room.now }
 {
-    if at < room.len() {
-        return at;
-    }
-    room.len()
+    at.min(room.len())
 }
 
 // One byte.
@@ -30,13 +27,10 @@ pub fn put_byte(room: &mut [u8], at: usize, b: u8) -> usize
 pub fn put_bytes(room: &mut [u8], at: usize, s: &[u8]) -> usize
     ensures { IsPrefixLen result room.new }
 {
-    let mut n = cursor_in(room, at);
-    let mut i: usize = 0;
-    while i < s.len() {
-        n = put_byte(room, n, s[i]);
-        i += 1;
-    }
-    n
+    let from = cursor_in(room, at);
+    let n = s.len().min(room.len() - from);
+    room[from..from + n].copy_from_slice(&s[..n]);
+    from + n
 }
 
 // A number in decimal.
@@ -46,15 +40,6 @@ pub fn put_number(room: &mut [u8], at: usize, x: u64) -> usize
     let mut digits = [0u8; 20];
     let k = io::decimal(x, &mut digits);
     put_bytes(room, at, &digits[..k])
-}
-
-// How far a number lies from 0.
-fn size_of(x: i32) -> u64 {
-    if x < 0 {
-        let m = -1 - x;
-        return m as u64 + 1;
-    }
-    x as u64
 }
 
 // A minus sign in front of a number below 0.
@@ -72,7 +57,7 @@ pub fn put_signed(room: &mut [u8], at: usize, x: i32) -> usize
     ensures { IsPrefixLen result room.new }
 {
     let n = put_sign(room, at, x);
-    put_number(room, n, size_of(x))
+    put_number(room, n, u64::from(x.unsigned_abs()))
 }
 
 // The last decimal digit of a number.
@@ -80,7 +65,7 @@ fn put_digit(room: &mut [u8], at: usize, x: u64) -> usize
     ensures { IsPrefixLen result room.new }
 {
     let d = (x % 10) as u8;
-    put_byte(room, at, 48 + d)
+    put_byte(room, at, b'0' + d)
 }
 
 // The last two decimal digits of a number.
@@ -95,7 +80,7 @@ pub fn put_two(room: &mut [u8], at: usize, x: u64) -> usize
 pub fn put_metres(room: &mut [u8], at: usize, tenths: i32) -> usize
     ensures { IsPrefixLen result room.new }
 {
-    let size = size_of(tenths);
+    let size = u64::from(tenths.unsigned_abs());
     let a = put_sign(room, at, tenths);
     let b = put_number(room, a, size / 10000);
     let c = put_byte(room, b, b'.');
@@ -107,7 +92,7 @@ pub fn put_metres(room: &mut [u8], at: usize, tenths: i32) -> usize
 pub fn put_quarters(room: &mut [u8], at: usize, quarters: u32) -> usize
     ensures { IsPrefixLen result room.new }
 {
-    let q = quarters as u64;
+    let q = u64::from(quarters);
     let a = put_number(room, at, q / 4);
     let b = put_byte(room, a, b'.');
     put_two(room, b, q % 4 * 25)
@@ -130,51 +115,23 @@ pub fn put_ura(room: &mut [u8], at: usize, u: Ura) -> usize
 {
     match u {
         Ura::Unknown => put_bytes(room, at, b"unknown"),
-        Ura::Quarters(q) => put_number(room, at, q as u64),
+        Ura::Quarters(q) => put_number(room, at, u64::from(q)),
         Ura::Above => put_bytes(room, at, b"above"),
     }
 }
 
-// Number i, from 0; 0 where there is none.
-fn nth_number(numbers: &[u64], i: u8) -> u64 {
-    let k = i as usize;
-    if k < numbers.len() {
-        return numbers[k];
-    }
-    0
-}
-
-// How many marks there were after a byte.
-fn marks_after(marks: u8, b: u8) -> u8 {
-    if b == b'#' {
-        if marks < 255 {
-            return marks + 1;
-        }
-    }
-    marks
-}
-
-// A byte, or a number where the byte is the mark #.
-fn put_marked(room: &mut [u8], at: usize, b: u8, x: u64) -> usize
-    ensures { IsPrefixLen result room.new }
-{
-    if b == b'#' {
-        return put_number(room, at, x);
-    }
-    put_byte(room, at, b)
-}
-
-// A text with the next of some numbers for each mark # in it.
+// A text with the next of some numbers for each mark # in it; 0 where there is none.
 pub fn put_text(room: &mut [u8], at: usize, text: &[u8], numbers: &[u64]) -> usize
     ensures { IsPrefixLen result room.new }
 {
     let mut n = cursor_in(room, at);
-    let mut marks: u8 = 0;
-    let mut i: usize = 0;
-    while i < text.len() {
-        n = put_marked(room, n, text[i], nth_number(numbers, marks));
-        marks = marks_after(marks, text[i]);
-        i += 1;
+    let mut marks = numbers.iter();
+    for &b in text {
+        n = if b == b'#' {
+            put_number(room, n, marks.next().copied().unwrap_or(0))
+        } else {
+            put_byte(room, n, b)
+        };
     }
     n
 }
@@ -194,13 +151,12 @@ pub fn put_detail(room: &mut [u8], at: usize, v: Verdict) -> usize
     ensures { IsPrefixLen result room.new }
 {
     match v {
-        Verdict::Taken => cursor_in(room, at),
-        Verdict::Refused(_) => cursor_in(room, at),
-        Verdict::Parity(first, failing) => {
+        Ok(()) | Err(Refusal::Number(_)) => cursor_in(room, at),
+        Err(Refusal::Parity(first, failing)) => {
             let a = put_field(room, at, b"group", first as u64);
             put_field(room, a, b"failing", failing as u64)
         }
-        Verdict::Places(set) => put_field(room, at, b"places", set as u64),
+        Err(Refusal::Places(set)) => put_field(room, at, b"places", set as u64),
     }
 }
 
@@ -224,7 +180,7 @@ pub fn put_where(room: &mut [u8], program: &[u8], file: &[u8], word: &[u8], x: u
 
 // A byte of printable ASCII as it is, a question mark for any other.
 fn printable(b: u8) -> u8 {
-    if (32 <= b) & (b <= 126) { b } else { 63 }
+    if matches!(b, b' '..=b'~') { b } else { b'?' }
 }
 
 // Bytes in a row, each printable.
@@ -232,10 +188,8 @@ fn put_printable(room: &mut [u8], at: usize, s: &[u8]) -> usize
     ensures { IsPrefixLen result room.new }
 {
     let mut n = cursor_in(room, at);
-    let mut i: usize = 0;
-    while i < s.len() {
-        n = put_byte(room, n, printable(s[i]));
-        i += 1;
+    for &b in s {
+        n = put_byte(room, n, printable(b));
     }
     n
 }
@@ -245,9 +199,9 @@ pub fn put_quoted(room: &mut [u8], at: usize, word: &[u8]) -> usize
     ensures { IsPrefixLen result room.new }
 {
     let k = cursor_in(word, 40);
-    let a = put_byte(room, at, 34);
+    let a = put_byte(room, at, b'"');
     let b = put_printable(room, a, &word[..k]);
-    let c = put_byte(room, b, 34);
+    let c = put_byte(room, b, b'"');
     if k < word.len() {
         return put_bytes(room, c, b"..");
     }
@@ -258,7 +212,7 @@ pub fn put_quoted(room: &mut [u8], at: usize, word: &[u8]) -> usize
 pub fn put_found(room: &mut [u8], at: usize, word: &[u8]) -> usize
     ensures { IsPrefixLen result room.new }
 {
-    if word.len() == 0 {
+    if word.is_empty() {
         return put_bytes(room, at, b", found the end of the line");
     }
     let a = put_bytes(room, at, b", found ");

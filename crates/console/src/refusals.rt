@@ -1,41 +1,19 @@
 // Refusals in words.
 ghost use Rattle.io.specs.Counts.{IsPrefixLen};
 
-use crate::put::{cursor_in, put_byte};
-
-// The number of the line after a byte of a line.
-fn line_after(line: u8, b: u8) -> u8 {
-    if b == 10 {
-        if line < 255 {
-            return line + 1;
-        }
-    }
-    line
-}
-
-// A byte of the line that is wanted, but for the line end.
-fn put_wanted(room: &mut [u8], at: usize, b: u8, wanted: bool) -> usize
-    ensures { IsPrefixLen result room.new }
-{
-    if wanted & (b != 10) {
-        return put_byte(room, at, b);
-    }
-    cursor_in(room, at)
-}
+use crate::put::{cursor_in, put_bytes};
 
 // The line of a text with a number, from 1; nothing where there is none.
 pub fn put_line(room: &mut [u8], at: usize, text: &[u8], number: u8) -> usize
     ensures { IsPrefixLen result room.new }
 {
-    let mut n = cursor_in(room, at);
-    let mut line: u8 = 1;
-    let mut i: usize = 0;
-    while i < text.len() {
-        n = put_wanted(room, n, text[i], line == number);
-        line = line_after(line, text[i]);
-        i += 1;
+    let Some(before) = number.checked_sub(1) else {
+        return cursor_in(room, at);
+    };
+    match text.split(|&b| b == b'\n').nth(usize::from(before)) {
+        Some(line) => put_bytes(room, at, line),
+        None => cursor_in(room, at),
     }
-    n
 }
 
 // Refusals of subframes, of D1 or D2 and of B-CNAV1, by their number less 30.

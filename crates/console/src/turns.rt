@@ -2,6 +2,7 @@
 // faults and writes nothing, the second writes. Input that cannot be rewound has the second alone, and a fault then says how much was written.
 ghost use Rattle.std.specs.Prelude.{◌≡◌, ◌+◌, ◌≤◌};
 ghost use Rattle.io.specs.Counts.{IsPrefixLen};
+ghost use Rattle.console.specs.declared.turns.Turn.TheVariants.{Wrong};
 
 use crate::input::{Input, seek};
 use crate::put::{cursor_in, put_byte, put_bytes, put_number, put_where};
@@ -9,13 +10,38 @@ use crate::say::{complain, put_cause, say_errno, say_where};
 use std::io::{Error, SeekFrom};
 
 // How a turn ended: there was nothing to write; something was written, or would be; the input has ended; something was wrong, and was said.
-pub const NOTHING: u8 = 0;
+#[derive(Clone, Copy, PartialEq, Eq)]
+pub enum Turn {
+    Nothing,
+    Written,
+    Ended,
+    Wrong,
+}
 
-pub const WRITTEN: u8 = 1;
+impl Turn {
+    // Whether another turn comes after it.
+    pub fn goes_on(self) -> bool {
+        matches!(self, Turn::Nothing | Turn::Written)
+    }
 
-pub const ENDED: u8 = 2;
+    // How much was written after it.
+    pub fn counted(self, written: u64) -> u64
+        ensures { (written ≤ result) × (result ≤ written + 1) }
+    {
+        if self == Turn::Written {
+            written.saturating_add(1)
+        } else {
+            written
+        }
+    }
 
-pub const WRONG: u8 = 3;
+    // The program's status, where it was the last.
+    pub fn status(self) -> u8
+        ensures { result ≤ 1 }
+    {
+        if self == Turn::Wrong { 1 } else { 0 }
+    }
+}
 
 // Whether this pass writes, the number of the line, and how much was written before it.
 #[derive(Clone, Copy)]
@@ -23,25 +49,6 @@ pub struct Pass {
     pub writes: bool,
     pub number: u64,
     pub written: u64,
-}
-
-// How much was written after a turn.
-pub fn counted(written: u64, state: u8) -> u64
-    ensures { (written ≤ result) × (result ≤ written + 1) }
-{
-    if state == WRITTEN {
-        if written < u64::MAX {
-            return written + 1;
-        }
-    }
-    written
-}
-
-// The program's status after its last turn.
-pub fn status_of(state: u8) -> u8
-    ensures { result ≤ 1 }
-{
-    if state == WRONG { 1 } else { 0 }
 }
 
 // Whether an input can be passed over twice.
@@ -93,14 +100,14 @@ pub fn say_line(
     thing: &[u8],
     p: Pass,
     what: &[u8],
-) -> u8
-    ensures { result ≡ 3 }
+) -> Turn
+    ensures { result ≡ Wrong }
 {
     let mut room = io::buffer();
     let a = put_bytes(&mut room, 0, what);
     let n = put_written(&mut room, a, thing, p);
     say_where(rt, program, file, b"line", p.number, &room[..n]);
-    WRONG
+    Turn::Wrong
 }
 
 // What the system says where a line cannot be read; the answer is that something was wrong.
@@ -111,13 +118,13 @@ pub fn say_unread(
     thing: &[u8],
     p: Pass,
     e: Error,
-) -> u8
-    ensures { result ≡ 3 }
+) -> Turn
+    ensures { result ≡ Wrong }
 {
     let mut room = io::large_buffer();
     let a = put_where(&mut room, program, file, b"line", p.number);
     let b = put_written(&mut room, a, thing, p);
     let n = put_cause(&mut room, b, e);
     complain(rt, &room[..n]);
-    WRONG
+    Turn::Wrong
 }

@@ -8,11 +8,9 @@ use native.Mathlib.Omega.{arith}
 use native.Mathlib.Numerals.{add-one}
 use lib.Dec.{ltb}
 use lib.ListN.{get_or, length, drop, drop_of_length-le}
-use borrow.Author.Tests.{le-ltb, ltb-true, ltb-false}
+use borrow.Author.Tests.{ltb-true, ltb-false}
 use Rattle.bits.specs.Table.{table}
-use Rattle.bits.proofs.TableLaws.{drop_one, table_ext}
-use Rattle.records.specs.Clock.{blank_clock}
-use Rattle.contents.specs.Parts.{clock_nth, clocks_at}
+use Rattle.bits.proofs.TableLaws.{drop_one}
 
 -- the walk goes on below 23 and below the count, and stops at the first of the two
 pub turn : (i n : ℕ) → ltb i 23 && ltb i n ≡ true → (i < 23) × (i < n)
@@ -43,8 +41,3 @@ module _ {A : Type 0} (f : ℕ → A) (d : List A) (z : A) where
       let n : i + suc m ≡ suc i + m = omega arith in
       rw (drop_one d i z (omega arith), ← e i (omega arith) (omega arith), n, add-one i)
       (sym (append_assoc (table f i) (f i ∷ []) (drop (suc i) d)) ∙ fill_rest m (suc i) (omega arith) (λ j h k. e j (omega arith) (omega arith)))
-
--- with no record to read, all are blank
-pub none_read : (slotted : Bool) (s : List ℕ) (at count : ℕ) → count ≡ 0 → clocks_at slotted s at count ≡ table (λ (i : ℕ). blank_clock) 23
-unfolding clocks_at
-none_read slotted s at count e = table_ext (clock_nth slotted s at count) (λ (i : ℕ). blank_clock) 23 (λ i h. rw (le-ltb i count (omega arith)))

@@ -2,13 +2,13 @@
 ghost use Rattle.std.specs.Prelude.{◌≡◌};
 ghost use Rattle.contents.specs.Parts.{no_mask, no_clocks, no_orbits, no_contents};
 
-use biases::BiasPart;
-use records::clock::Clock;
-use records::orbit::Orbit;
-use ura_codes::CodePart;
+use biases::{BiasPart, no_biases};
+use records::clock::{Clock, blank_clock};
+use records::orbit::{Orbit, blank_orbit};
+use ura_codes::{CodePart, no_codes};
 
 // Type 1: the mask's 255 bits in 32 bytes, slot 1 the high bit of the first; the last bit is 0.
-#[derive(Clone, Copy)]
+#[derive(Clone, Copy, PartialEq, Eq)]
 pub struct MaskPart {
     pub epoch: u32,
     pub ssr: u8,
@@ -17,7 +17,7 @@ pub struct MaskPart {
 }
 
 // Types 4, 6 and 7: start is the sub-type in type 4, Slot_S in type 6.
-#[derive(Clone, Copy)]
+#[derive(Clone, Copy, PartialEq, Eq)]
 pub struct ClockPart {
     pub epoch: u32,
     pub ssr: u8,
@@ -28,7 +28,7 @@ pub struct ClockPart {
 }
 
 // Types 2, 6 and 7.
-#[derive(Clone, Copy)]
+#[derive(Clone, Copy, PartialEq, Eq)]
 pub struct OrbitPart {
     pub epoch: u32,
     pub ssr: u8,
@@ -37,7 +37,7 @@ pub struct OrbitPart {
 }
 
 // What a message says. A part that its type lacks is all zero.
-#[derive(Clone, Copy)]
+#[derive(Clone, Copy, PartialEq, Eq)]
 pub struct Contents {
     pub kind: u8,
     pub mask: MaskPart,
@@ -51,12 +51,11 @@ pub struct Contents {
 pub fn no_mask() -> MaskPart
     ensures { result ≡ no_mask }
 {
-    let bytes = [0u8; 32];
     MaskPart {
         epoch: 0,
         ssr: 0,
         iodp: 0,
-        bytes,
+        bytes: [0; 32],
     }
 }
 
@@ -64,15 +63,13 @@ pub fn no_mask() -> MaskPart
 pub fn no_clocks() -> ClockPart
     ensures { result ≡ no_clocks }
 {
-    let k = records::clock::blank_clock();
-    let clocks = [k; 23];
     ClockPart {
         epoch: 0,
         ssr: 0,
         iodp: 0,
         start: 0,
         count: 0,
-        clocks,
+        clocks: [blank_clock(); 23],
     }
 }
 
@@ -80,13 +77,11 @@ pub fn no_clocks() -> ClockPart
 pub fn no_orbits() -> OrbitPart
     ensures { result ≡ no_orbits }
 {
-    let o = records::orbit::blank_orbit();
-    let orbits = [o; 6];
     OrbitPart {
         epoch: 0,
         ssr: 0,
         count: 0,
-        orbits,
+        orbits: [blank_orbit(); 6],
     }
 }
 
@@ -94,17 +89,12 @@ pub fn no_orbits() -> OrbitPart
 pub fn no_contents() -> Contents
     ensures { result ≡ no_contents }
 {
-    let mask = no_mask();
-    let clock = no_clocks();
-    let orbit = no_orbits();
-    let bias = biases::no_biases();
-    let code = ura_codes::no_codes();
     Contents {
         kind: 0,
-        mask,
-        clock,
-        orbit,
-        bias,
-        code,
+        mask: no_mask(),
+        clock: no_clocks(),
+        orbit: no_orbits(),
+        bias: no_biases(),
+        code: no_codes(),
     }
 }

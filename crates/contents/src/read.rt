@@ -16,6 +16,7 @@ pub fn layout_at(s: &[u8], at: u8) -> Layout
 }
 
 // The type of the message that begins at bit at.
+#[tactic(auto, unfolding(crate::specs::Parts::contents_at))]
 pub fn kind_of(s: &[u8], at: u8) -> u8
     ensures { result ≡ (contents_at s.now at).kind }
 {

@@ -1,16 +1,9 @@
 // What a line says of a subframe: FraID, SOW, and the 28 bytes of its information bits in hexadecimal.
-ghost use Rattle.std.specs.Prelude.{◌≡◌, ◌≤◌};
+ghost use Rattle.std.specs.Prelude.{◌≡◌, ◌≤◌, IfSome};
 ghost use Rattle.io.specs.Counts.{IsPrefixLen};
 ghost use Rattle.d1_subframes.specs.Subframe.{frame_of, second_of};
 
 use console::put::{cursor_in, put_bytes};
-
-// Bytes, and whether they were well formed.
-#[derive(Clone, Copy)]
-pub(crate) struct Data {
-    pub good: bool,
-    pub bytes: [u8; 28],
-}
 
 // FraID of information bits.
 pub(crate) fn frame_of(d: &[u8]) -> u8
@@ -31,7 +24,7 @@ fn put_pair(room: &mut [u8], at: usize, x: u8) -> usize
     ensures { IsPrefixLen result room.new }
 {
     let mut digits = [0u8; 16];
-    let k = io::hex(x as u64, 2, &mut digits);
+    let k = io::hex(u64::from(x), 2, &mut digits);
     put_bytes(room, at, &digits[..k])
 }
 
@@ -40,52 +33,36 @@ pub(crate) fn put_hex(room: &mut [u8], at: usize, s: &[u8]) -> usize
     ensures { IsPrefixLen result room.new }
 {
     let mut n = cursor_in(room, at);
-    let mut i: usize = 0;
-    while i < s.len() {
-        n = put_pair(room, n, s[i]);
-        i += 1;
+    for &x in s {
+        n = put_pair(room, n, x);
     }
     n
 }
 
-// The number that a digit says; 16 where it is none.
-fn value_of(b: u8) -> u8
-    ensures { result ≤ 16 }
+// The number that a digit says.
+fn value_of(b: u8) -> Option<u8>
+    ensures { IfSome result (λ v. v ≤ 15) }
 {
     match b {
-        48..=57 => b - 48,
-        97..=102 => b - 87,
-        _ => 16,
+        b'0'..=b'9' => Some(b - b'0'),
+        b'a'..=b'f' => Some(b - b'a' + 10),
+        _ => None,
     }
 }
 
-// The byte that two digits say; 256 where one is none.
-fn pair_of(first: u8, second: u8) -> u16 {
-    let high = value_of(first);
-    let low = value_of(second);
-    if high > 15 {
-        return 256;
-    }
-    if low > 15 {
-        return 256;
-    }
-    (16 * high + low) as u16
+// The byte that two digits say.
+fn pair_of(first: u8, second: u8) -> Option<u8> {
+    Some(16 * value_of(first)? + value_of(second)?)
 }
 
 // The 28 bytes that a text of 56 digits says.
-pub(crate) fn data_of(w: &[u8]) -> Data {
-    let mut bytes = [0u8; 28];
+pub(crate) fn data_of(w: &[u8]) -> Option<[u8; 28]> {
     if w.len() != 56 {
-        return Data { good: false, bytes };
+        return None;
     }
-    let mut i: usize = 0;
-    while i < 28 {
-        let x = pair_of(w[2 * i], w[2 * i + 1]);
-        if x > 255 {
-            return Data { good: false, bytes };
-        }
-        bytes[i] = x as u8;
-        i += 1;
+    let mut bytes = [0u8; 28];
+    for i in 0..28 {
+        bytes[i] = pair_of(w[2 * i], w[2 * i + 1])?;
     }
-    Data { good: true, bytes }
+    Some(bytes)
 }

@@ -8,19 +8,21 @@ mod writing;
 
 use console::args::{Args, own, own_count, own_is};
 use console::input::{Input, open, standard};
-use console::turns::{rewinds, status_of};
+use console::turns::rewinds;
 
 // All of an input: lines to subframes, or subframes to lines. The status.
 fn pass_all(rt: &HostRuntime, input: &mut Input, name: &[u8], lines: bool, once: bool) -> u8 {
-    if lines {
-        return status_of(writing::write_subframes(rt, input, name, once));
-    }
-    status_of(reading::show_subframes(rt, input, name))
+    let last = if lines {
+        writing::write_subframes(rt, input, name, once)
+    } else {
+        reading::show_subframes(rt, input, name)
+    };
+    last.status()
 }
 
 // The file of a name; - is standard input.
 fn pass_file(rt: &HostRuntime, name: &[u8], lines: bool) -> u8 {
-    if console::words::same(name, b"-") {
+    if name == b"-".as_slice() {
         return pass_all(rt, &mut standard(rt), b"standard input", lines, true);
     }
     match open(rt, name) {
@@ -62,7 +64,7 @@ fn run(rt: &HostRuntime, a: Args) -> u8 {
     if count == 1 {
         return pass_arg(rt, a, 0, false);
     }
-    if (count == 2) & own_is(rt, a, 0, b"-w") {
+    if count == 2 && own_is(rt, a, 0, b"-w") {
         return pass_arg(rt, a, 1, true);
     }
     usage(rt)

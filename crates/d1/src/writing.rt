@@ -5,134 +5,81 @@ use crate::faults;
 use crate::fields::{data_of, frame_of, second_of};
 use console::input::Input;
 use console::lines::{Lines, Step, next_line};
-use console::turns::{ENDED, NOTHING, Pass, WRITTEN, WRONG, counted};
-use console::words::{Number, next_word, number_of, same};
+use console::turns::{Pass, Turn};
+use console::words::{next_word, number_of};
 
-// The position after the last word that is as expected, and the number of the first word that is not, 0 where all are.
+// The first word of a line that is not as expected, by its number, and the position before it.
 #[derive(Clone, Copy)]
-struct Cursor {
+struct Fault {
+    word: u8,
     at: usize,
-    fault: u8,
-}
-
-// A cursor and the number read before it.
-#[derive(Clone, Copy)]
-struct Got {
-    cursor: Cursor,
-    value: u32,
-}
-
-// A cursor and the data read before it.
-#[derive(Clone, Copy)]
-struct GotData {
-    cursor: Cursor,
-    data: [u8; 28],
 }
 
 // A line that was read.
 #[derive(Clone, Copy)]
 struct Line {
-    cursor: Cursor,
     frame: u32,
     second: u32,
     data: [u8; 28],
 }
 
-// A word that must be a text.
-fn text(s: &[u8], p: Cursor, word: u8, t: &[u8]) -> Cursor {
-    if p.fault != 0 {
-        return p;
-    }
-    let w = next_word(s, p.at);
-    let a = w.from;
-    let b = w.to;
-    if same(&s[a..b], t) {
-        return Cursor { at: b, fault: 0 };
-    }
-    Cursor {
-        at: p.at,
-        fault: word,
+// A word that must be a text; the position after it.
+fn text(s: &[u8], at: usize, word: u8, t: &[u8]) -> Result<usize, Fault> {
+    let w = next_word(s, at);
+    let from = w.from;
+    let to = w.to;
+    if &s[from..to] == t {
+        Ok(to)
+    } else {
+        Err(Fault { word, at })
     }
 }
 
-// A word that must be a number.
-fn number(s: &[u8], p: Cursor, word: u8) -> Got {
-    if p.fault != 0 {
-        return Got {
-            cursor: p,
-            value: 0,
-        };
-    }
-    let w = next_word(s, p.at);
-    let a = w.from;
-    let b = w.to;
-    let n = number_of(&s[a..b]);
-    let Number::Value(value) = n else {
-        let cursor = Cursor {
-            at: p.at,
-            fault: word,
-        };
-        return Got { cursor, value: 0 };
-    };
-    let cursor = Cursor { at: b, fault: 0 };
-    Got { cursor, value }
+// A word that must be a number, and the position after it.
+fn number(s: &[u8], at: usize, word: u8) -> Result<(u32, usize), Fault> {
+    let w = next_word(s, at);
+    let from = w.from;
+    let to = w.to;
+    let value = number_of(&s[from..to]).ok_or(Fault { word, at })?;
+    Ok((value, to))
 }
 
-// A word that must be data.
-fn data_word(s: &[u8], p: Cursor, word: u8) -> GotData {
-    let w = next_word(s, p.at);
-    let a = w.from;
-    let b = w.to;
-    let d = data_of(&s[a..b]);
-    let data = d.bytes;
-    if p.fault != 0 {
-        return GotData { cursor: p, data };
-    }
-    if d.good {
-        let cursor = Cursor { at: b, fault: 0 };
-        return GotData { cursor, data };
-    }
-    let cursor = Cursor {
-        at: p.at,
-        fault: word,
-    };
-    GotData { cursor, data }
+// A word that must be data, and the position after it.
+fn data_word(s: &[u8], at: usize, word: u8) -> Result<([u8; 28], usize), Fault> {
+    let w = next_word(s, at);
+    let from = w.from;
+    let to = w.to;
+    let data = data_of(&s[from..to]).ok_or(Fault { word, at })?;
+    Ok((data, to))
 }
 
 // The line of a subframe.
-fn read_line(s: &[u8]) -> Line {
-    let a = text(s, Cursor { at: 0, fault: 0 }, 1, b"frame");
-    let f = number(s, a, 2);
-    let pf = f.cursor;
-    let b = text(s, pf, 3, b"sow");
-    let g = number(s, b, 4);
-    let pg = g.cursor;
-    let c = text(s, pg, 5, b"data");
-    let d = data_word(s, c, 6);
-    let pd = d.cursor;
-    let data = d.data;
-    let cursor = text(s, pd, 7, b"");
-    Line {
-        cursor,
-        frame: f.value,
-        second: g.value,
+fn read_line(s: &[u8]) -> Result<Line, Fault> {
+    let at = text(s, 0, 1, b"frame")?;
+    let (frame, at) = number(s, at, 2)?;
+    let at = text(s, at, 3, b"sow")?;
+    let (second, at) = number(s, at, 4)?;
+    let at = text(s, at, 5, b"data")?;
+    let (data, at) = data_word(s, at, 6)?;
+    text(s, at, 7, b"")?;
+    Ok(Line {
+        frame,
+        second,
         data,
-    }
+    })
 }
 
 // A subframe goes to standard output, in a pass that writes.
-fn write_subframe(rt: &HostRuntime, p: Pass, s: &[u8]) -> u8 {
-    if !p.writes {
-        return WRITTEN;
+fn write_subframe(rt: &HostRuntime, p: Pass, s: &[u8]) -> Turn {
+    if !p.writes || console::out::write(rt, b"d1", s) {
+        Turn::Written
+    } else {
+        Turn::Wrong
     }
-    if console::out::write(rt, b"d1", s) {
-        return WRITTEN;
-    }
-    WRONG
 }
 
 // Information bits are written as a subframe, or refused.
-fn write_data(rt: &HostRuntime, name: &[u8], p: Pass, d: &[u8]) -> u8 {
+fn write_data(rt: &HostRuntime, name: &[u8], p: Pass, d: &[u8]) -> Turn {
     let mut room = [0u8; 38];
     let refusal = verdict::number_of(d1_subframes::write_subframe(&mut room, d));
     if refusal != 0 {
@@ -142,9 +89,9 @@ fn write_data(rt: &HostRuntime, name: &[u8], p: Pass, d: &[u8]) -> u8 {
 }
 
 // A line that is well formed: its numbers must be those in its data.
-fn write_line(rt: &HostRuntime, name: &[u8], p: Pass, l: Line) -> u8 {
+fn write_line(rt: &HostRuntime, name: &[u8], p: Pass, l: Line) -> Turn {
     let d = l.data;
-    let frame = frame_of(&d) as u32;
+    let frame = u32::from(frame_of(&d));
     let second = second_of(&d);
     if frame != l.frame {
         return faults::say_differs(rt, name, p, 2, frame);
@@ -155,42 +102,39 @@ fn write_line(rt: &HostRuntime, name: &[u8], p: Pass, l: Line) -> u8 {
     write_data(rt, name, p, &d)
 }
 
-// A line is malformed at a cursor.
-fn say_malformed(rt: &HostRuntime, name: &[u8], p: Pass, s: &[u8], c: Cursor) -> u8 {
-    let w = next_word(s, c.at);
-    let a = w.from;
-    let b = w.to;
-    faults::say_malformed(rt, name, p, c.fault, &s[a..b])
+// A line is malformed.
+fn say_malformed(rt: &HostRuntime, name: &[u8], p: Pass, s: &[u8], fault: Fault) -> Turn {
+    let w = next_word(s, fault.at);
+    let from = w.from;
+    let to = w.to;
+    faults::say_malformed(rt, name, p, fault.word, &s[from..to])
 }
 
 // A line without a byte order mark.
-fn take_text(rt: &HostRuntime, name: &[u8], p: Pass, s: &[u8]) -> u8 {
+fn take_text(rt: &HostRuntime, name: &[u8], p: Pass, s: &[u8]) -> Turn {
     if console::words::is_remark(s) {
-        return NOTHING;
+        return Turn::Nothing;
     }
-    let l = read_line(s);
-    let c = l.cursor;
-    if c.fault != 0 {
-        return say_malformed(rt, name, p, s, c);
+    match read_line(s) {
+        Ok(l) => write_line(rt, name, p, l),
+        Err(fault) => say_malformed(rt, name, p, s, fault),
     }
-    write_line(rt, name, p, l)
 }
 
 // A line.
-fn take_line(rt: &HostRuntime, name: &[u8], p: Pass, s: &[u8]) -> u8 {
+fn take_line(rt: &HostRuntime, name: &[u8], p: Pass, s: &[u8]) -> Turn {
     let a = console::words::text_start(s, p.number);
     take_text(rt, name, p, &s[a..])
 }
 
 // A step of the reading.
-fn turn(rt: &HostRuntime, name: &[u8], room: &[u8], l: Lines, p: Pass) -> u8
+fn turn(rt: &HostRuntime, name: &[u8], room: &[u8], l: Lines, p: Pass) -> Turn
     requires { Inside l room.now }
 {
     let a = l.start;
     let b = l.end;
-    let step = l.step;
-    match step {
-        Step::End => ENDED,
+    match l.step {
+        Step::End => Turn::Ended,
         Step::Failed(e) => faults::say_unread(rt, name, p, e),
         Step::Long => faults::say_line(rt, name, p, b"longer than 65536 bytes"),
         Step::Line => take_line(rt, name, p, &room[a..b]),
@@ -204,39 +148,44 @@ fn all_lines(
     name: &[u8],
     room: &mut [u8],
     writes: bool,
-) -> u8 {
+) -> Turn {
     let mut l = console::lines::begin();
-    let mut state = NOTHING;
+    let mut last = Turn::Nothing;
     let mut written: u64 = 0;
-    let mut left = u64::MAX;
-    while left > 0 && state < ENDED {
-        let next = next_line(input, room, l);
-        l = next;
+    for _ in 0..u64::MAX {
+        l = next_line(input, room, l);
         let p = Pass {
             writes,
-            number: next.number,
+            number: l.number,
             written,
         };
-        state = turn(rt, name, room, next, p);
-        written = counted(written, state);
-        left -= 1;
+        last = turn(rt, name, room, l, p);
+        if !last.goes_on() {
+            break;
+        }
+        written = last.counted(written);
     }
-    state
+    last
 }
 
 // All lines of a file, twice: nothing is written where one is faulty.
-fn twice(rt: &HostRuntime, input: &mut Input, name: &[u8], room: &mut [u8]) -> u8 {
-    if all_lines(rt, input, name, room, false) == WRONG {
-        return WRONG;
+fn twice(rt: &HostRuntime, input: &mut Input, name: &[u8], room: &mut [u8]) -> Turn {
+    if all_lines(rt, input, name, room, false) == Turn::Wrong {
+        return Turn::Wrong;
     }
     if !console::turns::rewound(rt, b"d1", name, input) {
-        return WRONG;
+        return Turn::Wrong;
     }
     all_lines(rt, input, name, room, true)
 }
 
 // All lines of an input: a file is passed over twice, what cannot be rewound once.
-pub(crate) fn write_subframes(rt: &HostRuntime, input: &mut Input, name: &[u8], once: bool) -> u8 {
+pub(crate) fn write_subframes(
+    rt: &HostRuntime,
+    input: &mut Input,
+    name: &[u8],
+    once: bool,
+) -> Turn {
     let mut room = console::lines::line_room();
     if once {
         return all_lines(rt, input, name, &mut room, true);

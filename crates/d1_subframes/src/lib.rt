@@ -3,11 +3,11 @@
 
 ghost use Rattle.std.specs.Prelude.{◌≡◌, false, ◌*◌, ◌<◌};
 ghost use Rattle.bits.specs.Bits.{field_at};
-ghost use Rattle.verdict.specs.Verdict.{says, refused_by};
+ghost use Rattle.verdict.specs.Verdict.{says, refused_says, refused_by};
 ghost use Rattle.d1_subframes.specs.Subframe.{width_of, offset_of, info_of, sent_of, data_of, subframe_of};
 ghost use Rattle.d1_subframes.specs.Subframe.{subframe_refusal, read_refusal, subframe_write_refusal, read_into, written_into};
 
-use verdict::Verdict;
+use verdict::{Refusal, Refused, Verdict};
 
 // How many information bits word i, from 0, has.
 fn width_of(i: usize) -> u8
@@ -54,11 +54,9 @@ fn data_of(s: &[u8]) -> [u8; 28]
     ensures { result ≡ data_of s.now }
 {
     let mut out = [0u8; 28];
-    let mut i: usize = 0;
-    while i < 10 {
+    for i in 0..10 {
         let v = info_at(s, i);
         put_bits::put(&mut out, offset_of(i), width_of(i), v as u64);
-        i += 1;
     }
     out
 }
@@ -68,31 +66,28 @@ fn subframe_of(d: &[u8]) -> [u8; 38]
     ensures { result ≡ subframe_of d.now }
 {
     let mut out = [0u8; 38];
-    let mut i: usize = 0;
-    while i < 10 {
+    for i in 0..10 {
         let w = sent_at(d, i);
         put_bits::put(&mut out, 30 * i, 30, w as u64);
-        i += 1;
     }
     out
 }
 
-// Refusals 32 to 34 of information bits, lowest first; 0 if none applies.
-fn refusal_of(d: &[u8]) -> u8
-    ensures { result ≡ subframe_refusal false d.now }
+// Refusals 32 to 34 of information bits, lowest first.
+fn refusal_of(d: &[u8]) -> Result<(), Refused>
+    ensures { refused_says result ≡ refused_by (subframe_refusal false d.now) }
 {
     if bits::get16(d, 0, 11) != 0b11100010010 {
-        return 32;
+        return Err(Refused(32));
     }
     let frame = bits::get8(d, 15, 3);
     if (frame < 1) | (5 < frame) {
-        return 33;
+        return Err(Refused(33));
     }
     if 604799 < bits::get32(d, 18, 20) {
-        34
-    } else {
-        0
+        return Err(Refused(34));
     }
+    Ok(())
 }
 
 // A subframe is read into a lent room of 28 bytes: refusals 31 to 34, lowest first. On a refusal the room is as it was.
@@ -102,15 +97,12 @@ pub fn read_subframe(room: &mut [u8], s: &[u8]) -> Verdict
 {
     let closing = bits::get8(s, 300, 4);
     if (s.len() != 38) | (room.len() != 28) | (closing != 0) {
-        return Verdict::Refused(31);
+        return Err(Refusal::Number(31));
     }
     let d = data_of(s);
-    let n = refusal_of(&d);
-    if n != 0 {
-        return Verdict::Refused(n);
-    }
+    refusal_of(&d)?;
     lent::store(room, 0, &d);
-    Verdict::Taken
+    Ok(())
 }
 
 // A subframe is written into a lent room of 38 bytes: refusals 31 to 34, lowest first. On a refusal the room is as it was.
@@ -119,13 +111,10 @@ pub fn write_subframe(room: &mut [u8], s: &[u8]) -> Verdict
     ensures bytes { room.new ≡ written_into room.old s.now }
 {
     if (s.len() != 28) | (room.len() != 38) {
-        return Verdict::Refused(31);
+        return Err(Refusal::Number(31));
     }
-    let n = refusal_of(s);
-    if n != 0 {
-        return Verdict::Refused(n);
-    }
+    refusal_of(s)?;
     let w = subframe_of(s);
     lent::store(room, 0, &w);
-    Verdict::Taken
+    Ok(())
 }

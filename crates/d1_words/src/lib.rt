@@ -42,9 +42,7 @@ fn remainder(w: u16) -> u16
     ensures { result ≡ remainder_of w }
 {
     let mut r: u16 = 0;
-    let mut k: u16 = 15;
-    while 0 < k {
-        k -= 1;
+    for k in (0..15u16).rev() {
         r = shift(r, (w >> k) % 2);
     }
     r
@@ -80,9 +78,7 @@ fn apart(a: u16) -> u32
     ensures { result ≡ spread a }
 {
     let mut r: u32 = 0;
-    let mut k: u16 = 15;
-    while 0 < k {
-        k -= 1;
+    for k in (0..15u16).rev() {
         let b = (a >> k) % 2;
         r = r * 4 + b as u32;
     }
@@ -94,9 +90,7 @@ fn every_other(w: u32) -> u16
     ensures { result ≡ every_other w }
 {
     let mut r: u16 = 0;
-    let mut k: u32 = 15;
-    while 0 < k {
-        k -= 1;
+    for k in (0..15u32).rev() {
         let b = (w >> (2 * k)) % 2;
         r = r * 2 + b as u16;
     }

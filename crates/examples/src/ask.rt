@@ -6,6 +6,7 @@ use console::input::Input;
 use ledger::Ledger;
 use list::rows::{row_at, row_of_slot};
 use row::RowAnswer;
+use verdict::Refused;
 
 // The broadcast issues of every case: slot 19 is 37, slot 64 is 88, others none.
 pub(crate) fn issues() -> [u16; 255] {
@@ -25,13 +26,12 @@ fn ill_issues() -> [u16; 255] {
 // Writes an answer on the rest of a line: the slot of a row, or the refusal.
 fn say_answer(rt: &HostRuntime, a: RowAnswer) {
     match a {
-        RowAnswer::Found(row) => {
-            let slot = row.slot;
-            let numbers = [slot.0 as u64];
+        Ok(row) => {
+            let numbers = [u64::from(row.slot.0)];
             say_text(rt, b": slot #\n", &numbers);
         }
-        RowAnswer::Refused(n) => {
-            let numbers = [n as u64];
+        Err(Refused(n)) => {
+            let numbers = [u64::from(n)];
             say_text(rt, b": #\n", &numbers);
         }
     }
@@ -39,14 +39,14 @@ fn say_answer(rt: &HostRuntime, a: RowAnswer) {
 
 // Asks for the row at a position.
 fn ask_at(rt: &HostRuntime, text: &[u8], ledger: &[u8], issues: &[u16], n: u16) {
-    let numbers = [n as u64];
+    let numbers = [u64::from(n)];
     say_text(rt, text, &numbers);
     say_answer(rt, row_at(ledger, issues, n));
 }
 
 // Asks for the row of a slot.
 fn ask_slot(rt: &HostRuntime, text: &[u8], ledger: &[u8], issues: &[u16], slot: u16) {
-    let numbers = [slot as u64];
+    let numbers = [u64::from(slot)];
     say_text(rt, text, &numbers);
     say_answer(rt, row_of_slot(ledger, issues, slot));
 }

@@ -2,45 +2,43 @@
 use crate::ask::issues;
 use crate::say::{say, say_failed, say_row, say_text};
 use console::input::{Input, fill};
-use console::words::next_word;
 use held_mask::LEDGER_SIZE;
 use ledger::Ledger;
 use ledger::open::open;
 use ledger::take::take;
-use list::rows::{Count, row_at, row_count};
-use row::RowAnswer;
+use list::rows::{row_at, row_count};
 use verdict::number_of;
 
 // A ledger for PRN 60.
 pub(crate) fn opened() -> Ledger {
     let mut ledger = [0u8; LEDGER_SIZE];
-    open(&mut ledger, 60);
+    let _ = open(&mut ledger, 60);
     ledger
 }
 
-// What the next frame of a file is answered; 255 where the file has ended.
-pub(crate) fn take_next(file: &mut Input, ledger: &mut Ledger) -> u64 {
+// What the next frame of a file is answered; nothing where the file has ended.
+pub(crate) fn take_next(file: &mut Input, ledger: &mut Ledger) -> Option<u64> {
     let mut frame = [0u8; 125];
     let n = fill(file, &mut frame).count;
     if n == 0 {
-        return 255;
+        return None;
     }
-    number_of(take(ledger, &frame[..n])) as u64
+    Some(u64::from(number_of(take(ledger, &frame[..n]))))
 }
 
 // How many rows the list has.
 fn rows(ledger: &[u8]) -> u16 {
     let issues = issues();
     match row_count(ledger, &issues) {
-        Count::Rows(n) => n,
-        Count::Refused(_) => 0,
+        Ok(n) => n,
+        Err(_) => 0,
     }
 }
 
 // Writes the list's n-th row, if it has one.
 fn say_nth(rt: &HostRuntime, ledger: &[u8], n: u16) {
     let issues = issues();
-    let RowAnswer::Found(row) = row_at(ledger, &issues, n) else {
+    let Ok(row) = row_at(ledger, &issues, n) else {
         return;
     };
     say_row(rt, row);
@@ -48,7 +46,7 @@ fn say_nth(rt: &HostRuntime, ledger: &[u8], n: u16) {
 
 // Writes how many rows the list has.
 fn say_count(rt: &HostRuntime, count: u16) {
-    let numbers = [count as u64];
+    let numbers = [u64::from(count)];
     say_text(rt, b", rows #", &numbers);
 }
 
@@ -56,10 +54,8 @@ fn say_count(rt: &HostRuntime, count: u16) {
 fn say_rows(rt: &HostRuntime, ledger: &[u8]) {
     let count = rows(ledger);
     say_count(rt, count);
-    let mut n: u16 = 0;
-    while n < count {
-        n += 1;
-        say_nth(rt, ledger, n);
+    for i in 0..count {
+        say_nth(rt, ledger, i + 1);
     }
 }
 
@@ -85,10 +81,9 @@ fn turn(
     number: u64,
     listed: bool,
 ) -> bool {
-    let answer = take_next(file, ledger);
-    if answer == 255 {
+    let Some(answer) = take_next(file, ledger) else {
         return false;
-    }
+    };
     if listed {
         say_listed(rt, ledger, number, answer);
     } else {
@@ -100,9 +95,10 @@ fn turn(
 // Takes the frames of a file and writes their answers.
 fn turns(rt: &HostRuntime, file: &mut Input, listed: bool) {
     let mut ledger = opened();
-    let mut number: u64 = 1;
-    while number <= 1000 && turn(rt, file, &mut ledger, number, listed) {
-        number += 1;
+    for number in 1..1001 {
+        if !turn(rt, file, &mut ledger, number, listed) {
+            break;
+        }
     }
 }
 
@@ -128,24 +124,10 @@ fn case(rt: &HostRuntime, name: &[u8], listed: bool) {
     say(rt, b"\n");
 }
 
-// Runs the case whose name is the first word of a text from a position on; the answer is where that word ends.
-fn case_at(rt: &HostRuntime, names: &[u8], at: usize, listed: bool) -> usize {
-    let w = next_word(names, at);
-    let a = w.from;
-    let b = w.to;
-    if a < b {
-        case(rt, &names[a..b], listed);
-    }
-    b
-}
-
-// Runs the cases whose names are the words of a text, of at most 100.
+// Runs the cases whose names are the words of a text.
 fn cases(rt: &HostRuntime, names: &[u8], listed: bool) {
-    let mut at: usize = 0;
-    let mut left: u8 = 100;
-    while left > 0 && at < names.len() {
-        at = case_at(rt, names, at, listed);
-        left -= 1;
+    for name in names.split(|&b| b == b' ') {
+        case(rt, name, listed);
     }
 }
 

@@ -40,8 +40,7 @@ const WORD: [[u8; 9]; 18] = [
 fn symbol(k: usize) -> u8
     requires { k < 162 }
 {
-    let row = WORD[k / 9];
-    row[k % 9]
+    WORD[k / 9][k % 9]
 }
 
 // A frame with the appendix's code word: sync, PRN 60, flags of zero, 162 symbols.
@@ -49,10 +48,8 @@ fn frame() -> [u8; 125] {
     let mut out = [0u8; 125];
     put_bits::put(&mut out, 0, 16, 0xEB90);
     put_bits::put(&mut out, 16, 6, 60);
-    let mut k: usize = 0;
-    while k < 162 {
-        put_bits::put(&mut out, 28 + 6 * k, 6, symbol(k) as u64);
-        k += 1;
+    for k in 0..162 {
+        put_bits::put(&mut out, 28 + 6 * k, 6, u64::from(symbol(k)));
     }
     out
 }
@@ -60,7 +57,7 @@ fn frame() -> [u8; 125] {
 // The frame with the low bit of symbol k turned over.
 fn damaged(k: u8) -> [u8; 125] {
     let mut out = frame();
-    let at = 28 + 6 * (k as usize);
+    let at = 28 + 6 * usize::from(k);
     let was = bits::get(&out, at, 6);
     put_bits::put(&mut out, at, 6, was ^ 1);
     out
@@ -68,26 +65,17 @@ fn damaged(k: u8) -> [u8; 125] {
 
 // The frame with symbol k damaged is found wrong.
 fn caught(k: u8) -> bool {
-    let out = damaged(k);
-    !parity::parity_ok(&out)
+    !parity::parity_ok(&damaged(k))
 }
 
 // How many of the 162 symbols, each damaged alone, are caught.
 fn caught_count() -> u64 {
-    let mut n: u64 = 0;
-    let mut k: u8 = 0;
-    while k < 162 {
-        if caught(k) {
-            n += 1;
-        }
-        k += 1;
-    }
-    n
+    (0..162).filter(|&k| caught(k)).count() as u64
 }
 
 // Writes a product of the field.
 fn say_product(rt: &HostRuntime, a: u8, b: u8) {
-    let numbers = [a as u64, b as u64, field64::mul(a, b) as u64];
+    let numbers = [u64::from(a), u64::from(b), u64::from(field64::mul(a, b))];
     say_text(rt, b"field: # x # = #\n", &numbers);
 }
 
@@ -97,7 +85,7 @@ fn say_check(rt: &HostRuntime, text: &[u8], b: u64) {
     put_bits::put(&mut message, 461, 1, b);
     say(rt, text);
     let mut digits = [0u8; 16];
-    let k = io::hex(check24::check(&message, 0, 462) as u64, 6, &mut digits);
+    let k = io::hex(u64::from(check24::check(&message, 0, 462)), 6, &mut digits);
     say(rt, &digits[..k]);
     say(rt, b"\n");
 }
@@ -123,7 +111,7 @@ fn say_caught(rt: &HostRuntime) {
 fn say_groups(rt: &HostRuntime, k: u8) {
     let out = damaged(k);
     let g = parity::failed_groups(&out);
-    let numbers = [k as u64, g.first as u64, g.failing as u64];
+    let numbers = [u64::from(k), u64::from(g.first), u64::from(g.failing)];
     say_text(
         rt,
         b"symbol # damaged: first group #, failing #\n",
@@ -133,7 +121,7 @@ fn say_groups(rt: &HostRuntime, k: u8) {
 
 // Writes the accuracy index of a code.
 fn say_code(rt: &HostRuntime, code: u8) {
-    let numbers = [code as u64];
+    let numbers = [u64::from(code)];
     say_text(rt, b"URA code #: ", &numbers);
     say_ura(rt, ura::ura_of(code));
     say(rt, b"\n");
@@ -142,15 +130,22 @@ fn say_code(rt: &HostRuntime, code: u8) {
 // Writes the bit after the last of a message with these counts.
 fn say_end(rt: &HostRuntime, kind: u8, numc: u8, numo: u8) {
     let end = layout::end_of(layout::layout_of(kind, numc, numo));
-    let numbers = [kind as u64, numc as u64, numo as u64, end as u64];
+    let numbers = [
+        u64::from(kind),
+        u64::from(numc),
+        u64::from(numo),
+        u64::from(end),
+    ];
     say_text(rt, b"type #, # and #, ends at #\n", &numbers);
 }
 
 // Writes the answer to a message.
 fn say_read(rt: &HostRuntime, text: &[u8], message: &[u8]) {
-    let reading = message::read(message);
-    let v = reading.verdict;
-    let numbers = [number_of(v) as u64];
+    let number = match message::read(message) {
+        Ok(_) => 0,
+        Err(r) => number_of(Err(r)),
+    };
+    let numbers = [u64::from(number)];
     say(rt, text);
     say_text(rt, b"#\n", &numbers);
 }
@@ -171,7 +166,7 @@ fn opens(prn: u8) -> bool {
 // Writes the PRN if a ledger can be opened for it.
 fn say_if_opens(rt: &HostRuntime, prn: u8) {
     if opens(prn) {
-        let numbers = [prn as u64];
+        let numbers = [u64::from(prn)];
         say_text(rt, b" #", &numbers);
     }
 }
@@ -179,12 +174,9 @@ fn say_if_opens(rt: &HostRuntime, prn: u8) {
 // Writes each PRN that a ledger can be opened for.
 fn say_opened(rt: &HostRuntime) {
     say(rt, b"ledgers opened:");
-    let mut prn: u8 = 0;
-    while prn < 255 {
+    for prn in 0..=255u8 {
         say_if_opens(rt, prn);
-        prn += 1;
     }
-    say_if_opens(rt, 255);
     say(rt, b"\n");
 }
 

@@ -18,7 +18,7 @@ pub(crate) fn say_failed(rt: &HostRuntime, name: &[u8], e: Error) {
     let a = put_bytes(&mut room, 0, name);
     let b = put_bytes(&mut room, a, b": ");
     let c = put_error(&mut room, b, e);
-    let n = put_byte(&mut room, c, 10);
+    let n = put_byte(&mut room, c, b'\n');
     complain(rt, &room[..n]);
 }
 
@@ -36,28 +36,19 @@ pub(crate) fn say_text(rt: &HostRuntime, text: &[u8], numbers: &[u64]) {
     say(rt, &room[..n]);
 }
 
-// How far a number lies from 0.
-fn size_of(x: i32) -> u64 {
-    if x < 0 {
-        let m = -1 - x;
-        return m as u64 + 1;
-    }
-    x as u64
-}
-
 // Writes a number that may be negative.
 fn say_signed(rt: &HostRuntime, x: i32) {
     if x < 0 {
         say(rt, b"-");
     }
-    say_number(rt, size_of(x));
+    say_number(rt, u64::from(x.unsigned_abs()));
 }
 
 // Writes an accuracy index.
 pub(crate) fn say_ura(rt: &HostRuntime, u: Ura) {
     match u {
         Ura::Unknown => say(rt, b"unknown"),
-        Ura::Quarters(q) => say_number(rt, q as u64),
+        Ura::Quarters(q) => say_number(rt, u64::from(q)),
         Ura::Above => say(rt, b"above"),
     }
 }
@@ -81,12 +72,14 @@ fn say_value(rt: &HostRuntime, name: &[u8], value: i32) {
 
 // Writes what a row says of its satellite.
 fn say_satellite(rt: &HostRuntime, row: Row) {
-    let slot = row.slot;
-    let system = row.system;
-    let first = [slot.0 as u64];
-    let others = [row.number as u64, row.iodn as u64, row.corr as u64];
+    let first = [u64::from(row.slot.0)];
+    let others = [
+        u64::from(row.number),
+        u64::from(row.iodn),
+        u64::from(row.corr),
+    ];
     say_text(rt, b"\n    slot #, ", &first);
-    say_system(rt, system);
+    say_system(rt, row.system);
     say_text(rt, b" #, IODN #, corr #", &others);
 }
 
@@ -100,9 +93,8 @@ fn say_corrections(rt: &HostRuntime, row: Row) {
 
 // Writes a row, on a new line.
 pub(crate) fn say_row(rt: &HostRuntime, row: Row) {
-    let ura = row.ura;
     say_satellite(rt, row);
     say_corrections(rt, row);
     say(rt, b", URA ");
-    say_ura(rt, ura);
+    say_ura(rt, row.ura);
 }

@@ -1,11 +1,14 @@
 // The correction sheet of the whole list, which 02 prints in CR 7.
 use crate::say::{say, say_text};
 use sheet_writing::{Sheet, write_sheet};
+use verdict::Refused;
 
 // A hexadecimal digit.
 fn digit(x: u8) -> u8 {
-    let d = x % 16;
-    if d < 10 { 48 + d } else { 55 + d }
+    match x % 16 {
+        d @ 0..=9 => b'0' + d,
+        d => b'A' - 10 + d,
+    }
 }
 
 // Writes a byte in two hexadecimal digits, after a blank.
@@ -16,21 +19,17 @@ fn say_byte(rt: &HostRuntime, b: u8) {
 
 // Writes the first n bytes of a room.
 fn say_bytes(rt: &HostRuntime, room: &[u8], n: usize) {
-    let mut i: usize = 0;
-    while i < room.len() {
-        if i < n {
-            say_byte(rt, room[i]);
-        }
-        i += 1;
+    for &b in room.iter().take(n) {
+        say_byte(rt, b);
     }
 }
 
 // Writes the sheet that a room was lent for, or the refusal, on the rest of a line.
 fn say_sheet(rt: &HostRuntime, room: &[u8], s: Sheet) {
     match s {
-        Sheet::Written(length) => say_bytes(rt, room, length as usize),
-        Sheet::Refused(n) => {
-            let numbers = [n as u64];
+        Ok(length) => say_bytes(rt, room, usize::from(length)),
+        Err(Refused(n)) => {
+            let numbers = [u64::from(n)];
             say_text(rt, b" #", &numbers);
         }
     }

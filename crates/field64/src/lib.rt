@@ -1,21 +1,21 @@
 // The field of 64 (01, Parity and check bits), primitive polynomial 1 + x + x^6, vector form.
 #![tactic(auto)]
 
-ghost use Rattle.std.specs.Prelude.{◌≡◌, ◌<◌};
+ghost use Rattle.std.specs.Prelude.{◌≡◌};
 ghost use Rattle.field64.specs.Field.{product};
 ghost use Rattle.field64.specs.Logarithms.{logs, powers, product_by};
 
 pub mod padded;
 
 // 02, CR 5: the exponent of each element; zero has none, its entry is 0.
-const LOG: [u8; 64] = [
+static LOG: [u8; 64] = [
     0, 0, 1, 6, 2, 12, 7, 26, 3, 32, 13, 35, 8, 48, 27, 18, 4, 24, 33, 16, 14, 52, 36, 54, 9, 45,
     49, 38, 28, 41, 19, 56, 5, 62, 25, 11, 34, 31, 17, 47, 15, 23, 53, 51, 37, 44, 55, 40, 10, 61,
     46, 30, 50, 22, 39, 43, 29, 60, 42, 21, 20, 59, 57, 58,
 ];
 
 // 02, CR 5: the powers of x, from x^0 on.
-const EXP: [u8; 63] = [
+static EXP: [u8; 63] = [
     1, 2, 4, 8, 16, 32, 3, 6, 12, 24, 48, 35, 5, 10, 20, 40, 19, 38, 15, 30, 60, 59, 53, 41, 17,
     34, 7, 14, 28, 56, 51, 37, 9, 18, 36, 11, 22, 44, 27, 54, 47, 29, 58, 55, 45, 25, 50, 39, 13,
     26, 52, 43, 21, 42, 23, 46, 31, 62, 63, 61, 57, 49, 33,
@@ -35,23 +35,16 @@ pub fn power_table() -> [u8; 63]
     EXP
 }
 
-// A byte as a number to count with.
-fn wide(x: u8) -> usize
-    ensures { (result ≡ x) × (result < 256) }
-{
-    x as usize
-}
-
 // The product of two elements by lent tables of logarithms and powers; of any number its six low bits count.
 pub fn mul_by(log: &[u8; 64], exp: &[u8; 63], a: u8, b: u8) -> u8
     ensures { result ≡ product_by log.now exp.now a b }
 {
     let x = (a % 64) as usize;
     let y = (b % 64) as usize;
-    if (x == 0) | (y == 0) {
+    if x == 0 || y == 0 {
         return 0;
     }
-    let n = (wide(log[x]) + wide(log[y])) % 63;
+    let n = (usize::from(log[x]) + usize::from(log[y])) % 63;
     exp[n]
 }
 

@@ -1,14 +1,15 @@
 -- Laws of the test of 16: values held against widths, one at a time and record by record.
 use mathlib.Core.Path.{◌≡◌, refl, sym, ◌∙◌}
 use mathlib.Core.Logic.{⊎_elim}
-use Prim.Native.Nat.{ℕ, zero, suc, ◌+◌, ◌≤◌, ◌<◌, ◌^◌}
+use Prim.Native.Nat.{ℕ, zero, suc, ◌+◌, ◌<◌, ◌^◌}
 use mathlib.Core.Bool.{Bool, true, false, ◌&&◌, true≢false}
-use mathlib.Core.List.{List}
+use mathlib.Core.List.{List, [], ◌∷◌}
 use lib.Dec.{ltb}
-use lib.ListN.{get_or, length, drop, drop_of_length-le}
-use lib.Seq.{drop-cons}
+use lib.ListN.{get_or, length}
 use native.Mathlib.Nat.{not-suc-le-zero, eq-or-lt_of_le, le_of_suc-le-suc}
 use native.Mathlib.Numerals.{add-one}
+use Rattle.std.specs.List.{list_all, zip}
+use Rattle.bits.proofs.AllLaws.{all_counted}
 use Rattle.layout.specs.Layout.{part_widths}
 use Rattle.fitting.specs.Fits.{eight, head_vals, fits, all_fit}
 
@@ -21,16 +22,20 @@ pub and_right : (a b : Bool) → (a && b) ≡ true → b ≡ true
 and_right true b e = e
 and_right false b e = absurd (true≢false (sym e))
 
--- a turn of the loop that holds values against widths
-pub fits_step : (ws vs : List ℕ) (i : ℕ) → i < length ws → i < length vs → fits (drop i ws) (drop i vs) ≡ (ltb (get_or vs i 0) (2 ^ get_or ws i 0) && fits (drop (i + 1) ws) (drop (i + 1) vs))
+-- each pair of a width and a value
+pub fits_pairs : (ws vs : List ℕ) → list_all (λ (p : ℕ × ℕ). ltb p.1 (2 ^ p.0)) (zip ws vs) ≡ fits ws vs
 unfolding fits
-fits_step ws vs i l m = rw (add-one i, drop-cons ws i 0 l, drop-cons vs i 0 m)
+fits_pairs [] vs = refl
+fits_pairs (w ∷ ws) [] = refl
+fits_pairs (w ∷ ws) (v ∷ vs) = rw (fits_pairs ws vs)
 
-pub fits_end : (ws vs : List ℕ) (i : ℕ) → length ws ≤ i → fits (drop i ws) (drop i vs) ≡ true
-unfolding fits
-fits_end ws vs i l = rw (drop_of_length-le ws l)
+-- the same for records: each of a list of them passes the test of its values
+pub all_fit_each : {A : Type 0} (ws : List ℕ) (f : ℕ → List ℕ) (p : A → Bool) (xs : List A) (d : A) (n : ℕ) → length xs ≡ n → ((i : ℕ) → p (get_or xs i d) ≡ fits ws (f i)) → list_all p xs ≡ all_fit ws f n
+unfolding all_fit
+all_fit_each ws f p xs d n long same =
+    rw (← long) (all_counted p xs d (all_fit ws f) refl (λ i l. rw (add-one i, same i)))
 
--- the same for records
+-- the same, one record more at a time
 pub all_none : (ws : List ℕ) (f : ℕ → List ℕ) → all_fit ws f 0 ≡ true
 unfolding all_fit
 all_none ws f = refl

@@ -35,24 +35,14 @@ pub fn raw_or(z: i16, half: u16) -> u64
 fn one_fits(w: u8, v: u64) -> bool
     ensures { result ≡ ltb v (2 ^ w) }
 {
-    if w > 63 {
-        return true;
-    }
-    v < (1u64 << w)
+    w > 63 || v < (1u64 << w)
 }
 
 // Whether each value of a row is within its width.
 pub fn row_fits(ws: [u8; 8], vs: [u64; 8]) -> bool
     ensures { result ≡ fits ws vs }
 {
-    let mut i: usize = 0;
-    while i < 8 {
-        if !one_fits(ws[i], vs[i]) {
-            return false;
-        }
-        i += 1;
-    }
-    true
+    ws.iter().zip(vs.iter()).all(|(w, v)| one_fits(*w, *v))
 }
 
 // The widths of a part's head: epoch, reserved, IOD SSR, IODP, sub-type or Slot_S.

@@ -1,8 +1,8 @@
 -- Laws of the forms: their lengths, and the parts one after the other.
 use mathlib.Core.Path.{◌≡◌, refl, sym, ap, ◌∙◌}
-use Prim.Native.Nat.{ℕ, ◌*◌, ◌/◌, ◌%◌}
+use Prim.Native.Nat.{ℕ, ◌*◌}
 use mathlib.Core.List.{List, [], ◌∷◌, ◌++◌}
-use lib.ListN.{length, length-append}
+use lib.ListN.{get_or, length, length-append}
 use native.Mathlib.Omega.{arith}
 use Rattle.bits.specs.Bytes.{store_at, row_at}
 use Rattle.bits.proofs.ByteLaws.{length_row, bytes_whole}
@@ -17,7 +17,7 @@ use Rattle.flat_biases.specs.Biases.{biases_bytes}
 use Rattle.flat_biases.specs.Codes.{codes_bytes}
 use Rattle.flat_biases.proofs.FlatLaws.{biases_long, codes_long}
 use Rattle.flat_numbers.specs.Rows.{rows_to}
-use Rattle.flat_forms.specs.Write.{flat_clock_row, flat_orbit_row, mask_head, clock_head, orbit_head, flat_mask_bytes, clocks_bytes, orbits_bytes, contents_bytes, row_list, row_bytes}
+use Rattle.flat_forms.specs.Write.{flat_clock_row, flat_orbit_row, mask_head, clock_head, orbit_head, flat_mask_bytes, clocks_bytes, orbits_bytes, contents_bytes, row_bytes}
 use Rattle.flat_numbers.proofs.StoreLaws.{store_two, store_whole}
 use Rattle.flat_numbers.proofs.RowLaws.{length_rows}
 
@@ -66,16 +66,30 @@ contents_long c =
 pub row_long : (r : Row) → length (row_bytes r) ≡ 27
 row_long r = refl
 
+-- what the bytes of two and of four make
+abbrev two : List ℕ → List ℕ → List ℕ
+two x rest = get_or x 0 0 ∷ get_or x 1 0 ∷ rest
+
+abbrev four : List ℕ → List ℕ → List ℕ
+four x rest = get_or x 0 0 ∷ get_or x 1 0 ∷ get_or x 2 0 ∷ get_or x 3 0 ∷ rest
+
+-- the bytes of a row and of an orbit, by those of their numbers
+abbrev pub row_digits : ℕ → ℕ → ℕ → List ℕ → ℕ → List ℕ → List ℕ → List ℕ → List ℕ → ℕ → List ℕ → List ℕ
+row_digits slot system number iodn corr ra al cr ck kind q = slot ∷ system ∷ number ∷ two iodn (corr ∷ four ra (four al (four cr (four ck (kind ∷ four q [])))))
+
+abbrev pub orbit_digits : List ℕ → List ℕ → ℕ → List ℕ → List ℕ → List ℕ → ℕ → List ℕ → List ℕ
+orbit_digits slot iodn corr ra al cr kind q = two slot (two iodn (corr ∷ two ra (two al (two cr (kind ∷ four q [])))))
+
 -- equal numbers, equal rows
-pub row_same : (slot number iodn corr s s' ra ra' al al' cr cr' ck ck' k k' q q' : ℕ) →
-    s ≡ s' → ra ≡ ra' → al ≡ al' → cr ≡ cr' → ck ≡ ck' → k ≡ k' → q ≡ q' →
-    row_list slot s number iodn corr ra al cr ck k q ≡ row_list slot s' number iodn corr ra' al' cr' ck' k' q'
-row_same slot number iodn corr s s' ra ra' al al' cr cr' ck ck' k k' q q' a b d e f g h = rw (a, b, d, e, f, g, h)
+pub row_same : (slot number corr : ℕ) {s s' k k' : ℕ} {i i' ra ra' al al' cr cr' ck ck' q q' : List ℕ} →
+    s ≡ s' → i ≡ i' → ra ≡ ra' → al ≡ al' → cr ≡ cr' → ck ≡ ck' → k ≡ k' → q ≡ q' →
+    row_digits slot s number i corr ra al cr ck k q ≡ row_digits slot s' number i' corr ra' al' cr' ck' k' q'
+row_same slot number corr a i b d e f g h = rw (a, i, b, d, e, f, g, h)
 
 -- equal numbers, equal orbits
-pub orbit_same : (s i o : ℕ) {r r' a a' c c' k k' q q' : ℕ} → r ≡ r' → a ≡ a' → c ≡ c' → k ≡ k' → q ≡ q' →
-    ◌≡◌ {A = List ℕ} (s / 256 ∷ s % 256 ∷ i / 256 ∷ i % 256 ∷ o ∷ r / 256 ∷ r % 256 ∷ a / 256 ∷ a % 256 ∷ c / 256 ∷ c % 256 ∷ k ∷ q / 65536 / 256 ∷ q / 65536 % 256 ∷ q % 65536 / 256 ∷ q % 65536 % 256 ∷ []) (s / 256 ∷ s % 256 ∷ i / 256 ∷ i % 256 ∷ o ∷ r' / 256 ∷ r' % 256 ∷ a' / 256 ∷ a' % 256 ∷ c' / 256 ∷ c' % 256 ∷ k' ∷ q' / 65536 / 256 ∷ q' / 65536 % 256 ∷ q' % 65536 / 256 ∷ q' % 65536 % 256 ∷ [])
-orbit_same s i o r a c k q = rw (r, a, c, k, q)
+pub orbit_same : (corr : ℕ) {k k' : ℕ} {s s' i i' r r' a a' c c' q q' : List ℕ} → s ≡ s' → i ≡ i' → r ≡ r' → a ≡ a' → c ≡ c' → k ≡ k' → q ≡ q' →
+    orbit_digits s i corr r a c k q ≡ orbit_digits s' i' corr r' a' c' k' q'
+orbit_same corr s i r a c k q = rw (s, i, r, a, c, k, q)
 
 -- ---- the parts one after the other
 pub mask_two : (s : List ℕ) (kind : ℕ) (m : MaskPart) → length m.bytes ≡ 32

@@ -9,8 +9,8 @@ ghost use Rattle.flat_forms.specs.Write.{flat_clock_bytes, flat_clock_row, flat_
 use contents::parts::{ClockPart, Contents, MaskPart, OrbitPart};
 use flat_biases::put_last_parts;
 use flat_numbers::{raw16, raw32};
-use records::clock::{Clock, blank_clock};
-use records::orbit::{Orbit, blank_orbit};
+use records::clock::Clock;
+use records::orbit::Orbit;
 use row::Row;
 use slots::System;
 use ura::{ura_kind, ura_quarters};
@@ -32,45 +32,24 @@ fn system_number(s: System) -> u8
 fn clock_bytes(k: Clock) -> [u8; 5]
     ensures { result ≡ flat_clock_bytes k }
 {
-    let z = raw16(k.c0);
-    [
-        (k.slot / 256) as u8,
-        (k.slot % 256) as u8,
-        k.corr,
-        (z / 256) as u8,
-        (z % 256) as u8,
-    ]
+    let [s0, s1] = k.slot.to_be_bytes();
+    let [z0, z1] = raw16(k.c0).to_be_bytes();
+    [s0, s1, k.corr, z0, z1]
 }
 
 // The bytes of an orbit record.
 fn orbit_bytes(o: Orbit) -> [u8; 16]
     ensures { result ≡ flat_orbit_bytes o }
 {
-    let ra = raw16(o.radial);
-    let al = raw16(o.along);
-    let cr = raw16(o.cross);
-    let u = o.ura;
-    let k = ura_kind(u);
-    let q = ura_quarters(u);
-    let qh = q / 65536;
-    let ql = q % 65536;
+    let [s0, s1] = o.slot.to_be_bytes();
+    let [n0, n1] = o.iodn.to_be_bytes();
+    let [r0, r1] = raw16(o.radial).to_be_bytes();
+    let [a0, a1] = raw16(o.along).to_be_bytes();
+    let [c0, c1] = raw16(o.cross).to_be_bytes();
+    let k = ura_kind(o.ura);
+    let [q0, q1, q2, q3] = ura_quarters(o.ura).to_be_bytes();
     [
-        (o.slot / 256) as u8,
-        (o.slot % 256) as u8,
-        (o.iodn / 256) as u8,
-        (o.iodn % 256) as u8,
-        o.corr,
-        (ra / 256) as u8,
-        (ra % 256) as u8,
-        (al / 256) as u8,
-        (al % 256) as u8,
-        (cr / 256) as u8,
-        (cr % 256) as u8,
-        k,
-        (qh / 256) as u8,
-        (qh % 256) as u8,
-        (ql / 256) as u8,
-        (ql % 256) as u8,
+        s0, s1, n0, n1, o.corr, r0, r1, a0, a1, c0, c1, k, q0, q1, q2, q3,
     ]
 }
 
@@ -78,91 +57,42 @@ fn orbit_bytes(o: Orbit) -> [u8; 16]
 fn mask_head(kind: u8, epoch: u32, ssr: u8, iodp: u8) -> [u8; 7]
     ensures { result ≡ mask_head kind epoch ssr iodp }
 {
-    let hi = epoch / 65536;
-    let lo = epoch % 65536;
-    [
-        kind,
-        (hi / 256) as u8,
-        (hi % 256) as u8,
-        (lo / 256) as u8,
-        (lo % 256) as u8,
-        ssr,
-        iodp,
-    ]
+    let [e0, e1, e2, e3] = epoch.to_be_bytes();
+    [kind, e0, e1, e2, e3, ssr, iodp]
 }
 
 // The head of the clock part.
 fn clock_head(epoch: u32, ssr: u8, iodp: u8, start: u16, count: u8) -> [u8; 9]
     ensures { result ≡ clock_head epoch ssr iodp start count }
 {
-    let hi = epoch / 65536;
-    let lo = epoch % 65536;
-    [
-        (hi / 256) as u8,
-        (hi % 256) as u8,
-        (lo / 256) as u8,
-        (lo % 256) as u8,
-        ssr,
-        iodp,
-        (start / 256) as u8,
-        (start % 256) as u8,
-        count,
-    ]
+    let [e0, e1, e2, e3] = epoch.to_be_bytes();
+    let [s0, s1] = start.to_be_bytes();
+    [e0, e1, e2, e3, ssr, iodp, s0, s1, count]
 }
 
 // The head of the orbit part.
 fn orbit_head(epoch: u32, ssr: u8, count: u8) -> [u8; 6]
     ensures { result ≡ orbit_head epoch ssr count }
 {
-    let hi = epoch / 65536;
-    let lo = epoch % 65536;
-    [
-        (hi / 256) as u8,
-        (hi % 256) as u8,
-        (lo / 256) as u8,
-        (lo % 256) as u8,
-        ssr,
-        count,
-    ]
-}
-
-// A clock record is put from byte at on.
-fn put_clock(room: &mut [u8], at: usize, k: Clock)
-    ensures { room.new ≡ store_at room.old at (flat_clock_bytes k) }
-{
-    let b = clock_bytes(k);
-    lent::store(room, at, &b);
+    let [e0, e1, e2, e3] = epoch.to_be_bytes();
+    [e0, e1, e2, e3, ssr, count]
 }
 
 // The clock records are put.
-fn put_clocks(room: &mut [u8], ks: [Clock; 23])
-    ensures { room.new ≡ store_at room.old 48 (rows_to (flat_clock_row ks) 23) }
+fn put_clocks(room: &mut [u8], ks: &[Clock; 23])
+    ensures { room.new ≡ store_at room.old 48 (rows_to (flat_clock_row ks.now) 23) }
 {
-    let mut i: usize = 0;
-    while i < 23 {
-        let k = ks[i];
-        put_clock(room, 48 + 5 * i, k);
-        i += 1;
+    for (i, k) in ks.iter().enumerate() {
+        lent::store(room, 48 + 5 * i, &clock_bytes(*k));
     }
 }
 
-// An orbit record is put from byte at on.
-fn put_orbit(room: &mut [u8], at: usize, o: Orbit)
-    ensures { room.new ≡ store_at room.old at (flat_orbit_bytes o) }
-{
-    let b = orbit_bytes(o);
-    lent::store(room, at, &b);
-}
-
 // The orbit records are put.
-fn put_orbits(room: &mut [u8], os: [Orbit; 6])
-    ensures { room.new ≡ store_at room.old 169 (rows_to (flat_orbit_row os) 6) }
+fn put_orbits(room: &mut [u8], os: &[Orbit; 6])
+    ensures { room.new ≡ store_at room.old 169 (rows_to (flat_orbit_row os.now) 6) }
 {
-    let mut i: usize = 0;
-    while i < 6 {
-        let o = os[i];
-        put_orbit(room, 169 + 16 * i, o);
-        i += 1;
+    for (i, o) in os.iter().enumerate() {
+        lent::store(room, 169 + 16 * i, &orbit_bytes(*o));
     }
 }
 
@@ -171,9 +101,8 @@ fn put_mask_part(room: &mut [u8], kind: u8, m: MaskPart)
     ensures { room.new ≡ store_at room.old 0 (flat_mask_bytes kind m) }
 {
     let head = mask_head(kind, m.epoch, m.ssr, m.iodp);
-    let bytes = m.bytes;
     lent::store(room, 0, &head);
-    lent::store(room, 7, &bytes);
+    lent::store(room, 7, &m.bytes);
 }
 
 // The clock part is put.
@@ -181,9 +110,8 @@ fn put_clock_part(room: &mut [u8], p: ClockPart)
     ensures { room.new ≡ store_at room.old 39 (clocks_bytes p) }
 {
     let head = clock_head(p.epoch, p.ssr, p.iodp, p.start, p.count);
-    let ks = p.clocks;
     lent::store(room, 39, &head);
-    put_clocks(room, ks);
+    put_clocks(room, &p.clocks);
 }
 
 // The orbit part is put.
@@ -191,68 +119,35 @@ fn put_orbit_part(room: &mut [u8], p: OrbitPart)
     ensures { room.new ≡ store_at room.old 163 (orbits_bytes p) }
 {
     let head = orbit_head(p.epoch, p.ssr, p.count);
-    let os = p.orbits;
     lent::store(room, 163, &head);
-    put_orbits(room, os);
+    put_orbits(room, &p.orbits);
 }
 
 // The bytes of contents are put from the room's first byte on; those past its end are lost.
 pub fn put_contents(room: &mut [u8], c: Contents)
     ensures { room.new ≡ store_at room.old 0 (contents_bytes c) }
 {
-    let m = c.mask;
-    let k = c.clock;
-    let o = c.orbit;
-    let b = c.bias;
-    let u = c.code;
-    put_mask_part(room, c.kind, m);
-    put_clock_part(room, k);
-    put_orbit_part(room, o);
-    put_last_parts(room, b, u);
+    put_mask_part(room, c.kind, c.mask);
+    put_clock_part(room, c.clock);
+    put_orbit_part(room, c.orbit);
+    put_last_parts(room, c.bias, c.code);
 }
 
 // The bytes of a row.
 fn row_bytes(r: Row) -> [u8; 27]
     ensures { result ≡ row_bytes r }
 {
-    let slot = r.slot;
-    let system = r.system;
-    let u = r.ura;
-    let s = system_number(system);
-    let ra = raw32(r.radial);
-    let al = raw32(r.along);
-    let cr = raw32(r.cross);
-    let ck = raw32(r.clock);
-    let k = ura_kind(u);
-    let q = ura_quarters(u);
+    let s = system_number(r.system);
+    let [n0, n1] = r.iodn.to_be_bytes();
+    let [r0, r1, r2, r3] = raw32(r.radial).to_be_bytes();
+    let [a0, a1, a2, a3] = raw32(r.along).to_be_bytes();
+    let [c0, c1, c2, c3] = raw32(r.cross).to_be_bytes();
+    let [k0, k1, k2, k3] = raw32(r.clock).to_be_bytes();
+    let u = ura_kind(r.ura);
+    let [q0, q1, q2, q3] = ura_quarters(r.ura).to_be_bytes();
     [
-        slot.0,
-        s,
-        r.number,
-        (r.iodn / 256) as u8,
-        (r.iodn % 256) as u8,
-        r.corr,
-        (ra / 65536 / 256) as u8,
-        (ra / 65536 % 256) as u8,
-        (ra % 65536 / 256) as u8,
-        (ra % 65536 % 256) as u8,
-        (al / 65536 / 256) as u8,
-        (al / 65536 % 256) as u8,
-        (al % 65536 / 256) as u8,
-        (al % 65536 % 256) as u8,
-        (cr / 65536 / 256) as u8,
-        (cr / 65536 % 256) as u8,
-        (cr % 65536 / 256) as u8,
-        (cr % 65536 % 256) as u8,
-        (ck / 65536 / 256) as u8,
-        (ck / 65536 % 256) as u8,
-        (ck % 65536 / 256) as u8,
-        (ck % 65536 % 256) as u8,
-        k,
-        (q / 65536 / 256) as u8,
-        (q / 65536 % 256) as u8,
-        (q % 65536 / 256) as u8,
-        (q % 65536 % 256) as u8,
+        r.slot.0, s, r.number, n0, n1, r.corr, r0, r1, r2, r3, a0, a1, a2, a3, c0, c1, c2, c3, k0,
+        k1, k2, k3, u, q0, q1, q2, q3,
     ]
 }
 
@@ -260,6 +155,5 @@ fn row_bytes(r: Row) -> [u8; 27]
 pub fn put_row(room: &mut [u8], at: usize, r: Row)
     ensures { room.new ≡ store_at room.old at (row_bytes r) }
 {
-    let b = row_bytes(r);
-    lent::store(room, at, &b);
+    lent::store(room, at, &row_bytes(r));
 }

@@ -1,3 +1,4 @@
 pub mod ByteLaws
+pub mod DigitLaws
 pub mod StoreLaws
 pub mod RowLaws

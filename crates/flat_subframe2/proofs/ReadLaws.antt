@@ -1,5 +1,5 @@
--- Laws of reading into lent room: the refusals by the room's length, a verdict by its number, and a room that the fields fill.
-use mathlib.Core.Path.{◌≡◌, refl, sym, ap, ◌∙◌}
+-- Laws of reading into lent room: the refusals by the room's length, and a room that the fields fill.
+use mathlib.Core.Path.{◌≡◌, refl, sym, ◌∙◌}
 use mathlib.Core.Logic.{◌≢◌}
 use mathlib.Core.List.{List}
 use Prim.Native.Nat.{ℕ}
@@ -7,8 +7,6 @@ use lib.IntN.{ℤ}
 use lib.ListN.{length}
 use borrow.Author.Tests.{eq-eqb, ne_eqb}
 use Rattle.bits.specs.Bytes.{store_at}
-use Rattle.verdict.specs.Verdict.{number_in, refused_by}
-use Rattle.verdict.proofs.NumberLaws.{number_back}
 use Rattle.flat_numbers.proofs.StoreLaws.{store_whole}
 use Rattle.flat_numbers.proofs.RowLaws.{length_rows}
 use Rattle.subframe2.specs.Read.{subframe2_refusal}
@@ -23,10 +21,6 @@ module _ (room s : List ℕ) where
   pub size_right : length room ≡ 248 → fields_refusal room s ≡ subframe2_refusal s
   unfolding fields_refusal
   size_right e = rw (eq-eqb _ _ e)
-
--- the number of a verdict that says a number
-pub number_said : (k n : ℕ) (said : List ℕ) → k ≡ number_in said → said ≡ refused_by n → n ≡ k
-number_said k n said a e = sym (a ∙ ap number_in e ∙ number_back n)
 
 -- the fields are 248 bytes, and fill a room of as many
 pub fields_long : (fields : List ℤ) → length (fields_bytes fields) ≡ 248

@@ -8,7 +8,7 @@ ghost use Rattle.verdict.specs.Verdict.{says, refused_by};
 ghost use Rattle.flat_subframe2.specs.Write.{eight_bytes, fields_bytes};
 ghost use Rattle.flat_subframe2.specs.Read.{fields_refusal, fields_into};
 
-use verdict::{Verdict, number_of};
+use verdict::{Refusal, Verdict};
 
 // A number with its sign as eight bytes say it.
 fn raw64(z: i64) -> u64
@@ -26,35 +26,22 @@ fn raw64(z: i64) -> u64
 fn eight_bytes(x: u64) -> [u8; 8]
     ensures { result ≡ eight_bytes x }
 {
-    [
-        (x / 0x100000000000000) as u8,
-        (x / 0x1000000000000 % 256) as u8,
-        (x / 0x10000000000 % 256) as u8,
-        (x / 0x100000000 % 256) as u8,
-        (x / 0x1000000 % 256) as u8,
-        (x / 0x10000 % 256) as u8,
-        (x / 0x100 % 256) as u8,
-        (x % 256) as u8,
-    ]
+    x.to_be_bytes()
 }
 
 // A field is put from byte at on.
 fn put_field(room: &mut [u8], at: usize, z: i64)
     ensures { room.new ≡ store_at room.old at (eight_bytes (raw_half (2 ^ 63) z)) }
 {
-    let b = eight_bytes(raw64(z));
-    lent::store(room, at, &b);
+    lent::store(room, at, &eight_bytes(raw64(z)));
 }
 
 // The fields are put from the room's first byte on; bytes past its end are lost.
 pub fn put_fields(room: &mut [u8], fields: [i64; 31])
     ensures { room.new ≡ store_at room.old 0 (fields_bytes fields) }
 {
-    let mut i: usize = 0;
-    while i < 31 {
-        let z = fields[i];
-        put_field(room, 8 * i, z);
-        i += 1;
+    for (i, z) in fields.iter().enumerate() {
+        put_field(room, 8 * i, *z);
     }
 }
 
@@ -64,14 +51,9 @@ pub fn read_fields(room: &mut [u8], s: &[u8]) -> Verdict
     ensures bytes { room.new ≡ fields_into room.old s.now }
 {
     if room.len() != 248 {
-        return Verdict::Refused(39);
+        return Err(Refusal::Number(39));
     }
-    let r = subframe2::read(s);
-    let v = r.verdict;
-    if number_of(v) != 0 {
-        return v;
-    }
-    let fields = r.fields;
+    let fields = subframe2::read(s)?;
     put_fields(room, fields);
-    v
+    Ok(())
 }

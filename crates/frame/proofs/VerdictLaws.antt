@@ -15,13 +15,13 @@ use Rattle.parity.specs.Parity.{parity_ok}
 use Rattle.contents.specs.declared.parts.Contents.{Contents}
 use Rattle.layout.proofs.LayoutLaws.{pick_all}
 use Rattle.bits.specs.Some.{any_of, first}
-use Rattle.contents.specs.Parts.{contents_at, end_at, no_contents}
+use Rattle.contents.specs.Parts.{contents_at, end_at}
 use Rattle.judge.specs.Judge.{is_kind, too_long, late, is_high, is_again, sat_slots, high_slot, twice, refusal_of, refusal_at}
 use Rattle.verdict.specs.Verdict.{says, number_in, refused_by}
 use Rattle.message.specs.Read.{reading_says, answer, read_at}
-use Rattle.verdict.specs.declared.Verdict.{Verdict}
-use Rattle.message.specs.declared.Reading.{Reading}
-use Rattle.verdict.proofs.NumberLaws.{number_back}
+use Rattle.verdict.specs.declared.Refusal.{Refusal}
+use Rattle.verdict.proofs.NumberLaws.{number_back, some_said}
+use Rattle.std.specs.Prelude.{Result, Err}
 use Rattle.frame.specs.Frame.{shell_refusal, refusal_with, frame_says, read_with}
 use Rattle.frame.proofs.FrameLaws.{leading, second}
 
@@ -39,6 +39,15 @@ frame_number f n = dite (ℕ_discrete n 6) (λ e. rw (eq-eqb n 6 e) (sym e)) (λ
 pub frame_quiet : (f : List ℕ) (n : ℕ) → number_in (frame_says f n) ≡ 0 → frame_says f n ≡ []
 unfolding frame_says
 frame_quiet f n e = ap (frame_says f) (sym (frame_number f n) ∙ e)
+
+-- a number of which nothing is said is 0
+pub frame_none : (f : List ℕ) (n : ℕ) → [] ≡ frame_says f n → n ≡ 0
+frame_none f n e = sym (frame_number f n) ∙ ap number_in (sym e)
+
+-- and one of which a refusal is said is not
+pub frame_some : (f : List ℕ) (n : ℕ) (r : Refusal) → says (Err r) ≡ frame_says f n → n ≢ 0
+unfolding frame_says
+frame_some f n r e z = some_said r (sym (e ∙ ap (frame_says f) z))
 
 -- what holds of 0 and of each of five numbers holds of the first that is given
 among : (P : ℕ → Type 0) (a b c d e : ℕ) → P 0 → P a → P b → P c → P d → P e → (p q r s t : Bool) → P (first ((a, p) ∷ (b, q) ∷ (c, r) ∷ (d, s) ∷ (e, t) ∷ []))
@@ -96,17 +105,16 @@ frame_not_19 foreign f =
 -- ---- the two ways that reading a frame goes
 module _ (foreign : Bool) (f : List ℕ) where
   -- the frame around its message is refused
-  pub way_shut : (v : Verdict) (c : Contents) → says v ≡ frame_says f (shell_refusal foreign f) → c ≡ no_contents → number_in (says v) ≢ 0 → reading_says (record { verdict = v; contents = c }) ≡ read_with foreign f
+  pub way_shut : (r : Refusal) → says (Err r) ≡ frame_says f (shell_refusal foreign f) → reading_says (Err r) ≡ read_with foreign f
   unfolding read_with refusal_with
-  way_shut v c e z n =
+  way_shut r e =
       let q = shell_refusal foreign f in
-      let some : q ≢ 0 = λ a. n (ap number_in e ∙ frame_number f q ∙ a) in
-      rw (leading q (refusal_at f 28) some, ne_eqb q 0 some, e, z)
+      let some : q ≢ 0 = frame_some f q r e in
+      rw (leading q (refusal_at f 28) some, ne_eqb q 0 some, e)
 
   -- it is not, and its contents are judged
-  pub way_open : (v : Verdict) (r : Reading) → says v ≡ frame_says f (shell_refusal foreign f) → number_in (says v) ≡ 0 → reading_says r ≡ read_at f 28 → reading_says r ≡ read_with foreign f
+  pub way_open : (r : Result Contents Refusal) → [] ≡ frame_says f (shell_refusal foreign f) → reading_says r ≡ read_at f 28 → reading_says r ≡ read_with foreign f
   unfolding read_with refusal_with answer
-  way_open v r e n a =
+  way_open r e a =
       let q = refusal_at f 28 in
-      let zero = sym (frame_number f (shell_refusal foreign f)) ∙ ap number_in (sym e) ∙ n in
-      a ∙ rw (second (shell_refusal foreign f) q zero, told_alone f q (contents_not_6 f 28))
+      a ∙ rw (second (shell_refusal foreign f) q (frame_none f _ e), told_alone f q (contents_not_6 f 28))

@@ -6,9 +6,8 @@ ghost use Rattle.verdict.specs.Verdict.{says};
 ghost use Rattle.message.specs.Read.{reading_says};
 ghost use Rattle.frame.specs.Frame.{prn_of, is_prn, shell_refusal, frame_says, read_frame, shell_for, read_with};
 
-use contents::parts::no_contents;
 use message::{Reading, read_at};
-use verdict::{Verdict, number_of};
+use verdict::{Refusal, Verdict};
 
 // The PRN that a frame carries; the bits past the end of a short one are 0.
 pub fn prn_of(f: &[u8]) -> u8
@@ -22,36 +21,32 @@ fn shell_verdict(f: &[u8], foreign: bool) -> Verdict
     ensures { says result ≡ frame_says f.now (shell_refusal foreign f.now) }
 {
     if f.len() != 125 {
-        return Verdict::Refused(1);
+        return Err(Refusal::Number(1));
     }
     if bits::get16(f, 0, 16) != 0xEB90 {
-        return Verdict::Refused(3);
+        return Err(Refusal::Number(3));
     }
     if foreign {
-        return Verdict::Refused(4);
+        return Err(Refusal::Number(4));
     }
     if bits::bit(f, 22) == 1 {
-        return Verdict::Refused(5);
+        return Err(Refusal::Number(5));
     }
     let g = parity::failed_groups(f);
     if g.failing != 0 {
-        return Verdict::Parity(g.first, g.failing);
+        return Err(Refusal::Parity(g.first, g.failing));
     }
     if !check24::check_ok(f, 28, 462) {
-        return Verdict::Refused(7);
+        return Err(Refusal::Number(7));
     }
-    Verdict::Taken
+    Ok(())
 }
 
 // The frame's message, or the lowest refusal; foreign says whether 4 applies.
 fn read_with(f: &[u8], foreign: bool) -> Reading
     ensures { reading_says result ≡ read_with foreign f.now }
 {
-    let verdict = shell_verdict(f, foreign);
-    if number_of(verdict) != 0 {
-        let contents = no_contents();
-        return Reading { verdict, contents };
-    }
+    shell_verdict(f, foreign)?;
     read_at(f, 28)
 }
 

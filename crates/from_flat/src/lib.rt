@@ -8,21 +8,16 @@ ghost use Rattle.from_flat.specs.Read.{flat_clock_at, flat_clocks_at, flat_orbit
 use contents::parts::{ClockPart, Contents, MaskPart, OrbitPart};
 use flat_biases::{read_bias_part, read_code_part};
 use flat_numbers::signed16;
-use records::clock::{Clock, blank_clock};
-use records::orbit::{Orbit, blank_orbit};
+use records::clock::Clock;
+use records::orbit::Orbit;
+use std::array;
 use ura::held_ura;
 
 // The mask's 32 bytes.
 fn read_mask_bytes(t: &[u8]) -> [u8; 32]
     ensures { result ≡ row_at t.now 7 32 }
 {
-    let mut out = [0u8; 32];
-    let mut i: usize = 0;
-    while i < 32 {
-        out[i] = lent::byte(t, 7 + i);
-        i += 1;
-    }
-    out
+    array::from_fn(|i| lent::byte(t, 7 + i))
 }
 
 // The clock record from byte at on.
@@ -40,13 +35,7 @@ fn read_clock(t: &[u8], at: usize) -> Clock
 fn read_clocks(t: &[u8]) -> [Clock; 23]
     ensures { result ≡ flat_clocks_at t.now }
 {
-    let mut out = [blank_clock(); 23];
-    let mut i: usize = 0;
-    while i < 23 {
-        out[i] = read_clock(t, 48 + 5 * i);
-        i += 1;
-    }
-    out
+    array::from_fn(|i| read_clock(t, 48 + 5 * i))
 }
 
 // The orbit record from byte at on.
@@ -76,13 +65,7 @@ fn read_orbit(t: &[u8], at: usize) -> Orbit
 fn read_orbits(t: &[u8]) -> [Orbit; 6]
     ensures { result ≡ flat_orbits_at t.now }
 {
-    let mut out = [blank_orbit(); 6];
-    let mut i: usize = 0;
-    while i < 6 {
-        out[i] = read_orbit(t, 169 + 16 * i);
-        i += 1;
-    }
-    out
+    array::from_fn(|i| read_orbit(t, 169 + 16 * i))
 }
 
 // The mask part.

@@ -2,7 +2,7 @@
 use mathlib.Core.Path.{◌≡◌, refl, sym}
 use mathlib.Core.Logic.{◌⊎◌}
 use Prim.Native.Nat.{ℕ, ◌≤◌}
-use mathlib.Core.Bool.{Bool, true, false}
+use mathlib.Core.Bool.{Bool, true, false, not, ◌&&◌}
 use mathlib.Core.List.{List, map}
 use lib.Dec.{eqb}
 use lib.ListN.{get_or, length}
@@ -12,23 +12,34 @@ use Rattle.bits.specs.Bytes.{Kept}
 use Rattle.slots.specs.Slots.{slot_named}
 use Rattle.lookback.specs.Store.{Named, replace_all, unplaced}
 use Rattle.lent.specs.Digits.{zig_of}
+use Rattle.lent.specs.Held.{comes_in}
 use Rattle.lent.proofs.HeldLaws.{replace_named, replace_none, replace_room, replaces_room, replaces_view, AllHeld, held_sound, helds_kept}
 use Rattle.lent.proofs.DropLaws.{drop_room, dropped_view}
 use Rattle.lent.proofs.DigitLaws.{pair_back, quad_back, zag_zig, flag_back}
 use Rattle.held_mask.specs.Size.{size}
 use Rattle.newest.specs.Newest.{replaces, stamp_at}
+use Rattle.newest.specs.Rows.{replaces_row, comes_to}
+use Rattle.newest.specs.declared.Rows.{Rows}
+use Rattle.newest.proofs.RowLaws.{comes_replaces}
 use Rattle.held_clocks.specs.Clocks.{clock_stamp, clock_replaces, held_clock_at, clock_offset, no_clock, clocks_kept, held_clock_bytes, held_clock_in, held_clock_of, held_clocks_at, replace_clock, replace_clocks, dropped_clocks}
 use Rattle.held_clocks.specs.declared.HeldClock.{HeldClock}
 use Rattle.held_clocks.proofs.ReadLaws.{clock_none}
 
 -- ---- what decides of the clock that a row says
-pub clock_row_lem : (r : List ℕ) (h : HeldClock) → replaces (eqb (get_or r 0 0) 1) (stamp_at r 2 6 7) (clock_stamp h) ≡ clock_replaces (held_clock_of r) h
+abbrev pub clock_rows : Rows
+clock_rows = record { first = 36; size = 12; epoch = 2; ssr = 6; corr = 7 }
+
+clock_row_lem : (h : HeldClock) (r : List ℕ) → replaces_row r clock_rows (clock_stamp h) ≡ clock_replaces (held_clock_of r) h
 unfolding replaces clock_replaces
-clock_row_lem r h = go (eqb (get_or r 0 0) 1)
+clock_row_lem h r = go (eqb (get_or r 0 0) 1)
   where
     go : (b : Bool) → replaces b (stamp_at r 2 6 7) (clock_stamp h) ≡ clock_replaces (pick b (held_clock_in r) no_clock) h
     go true = refl
     go false = refl
+
+-- a clock comes into force where it replaces the one kept for its slot; slot 0 is none
+pub clock_comes : (s : List ℕ) (slot : ℕ) (h : HeldClock) → comes_to s clock_rows slot (clock_stamp h) ≡ not (eqb slot 0) && comes_in clock_replaces held_clock_of 12 s 36 slot h
+clock_comes s slot h = comes_replaces clock_replaces held_clock_of s clock_rows slot (clock_stamp h) h (clock_row_lem h)
 
 -- ---- there and back
 pub clock_long : (h : HeldClock) → length (held_clock_bytes h) ≡ 12

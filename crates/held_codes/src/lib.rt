@@ -27,12 +27,7 @@ pub fn no_code() -> HeldCode
 fn code_offset(slot: Slot) -> usize
     ensures { result ≡ code_offset slot.0 }
 {
-    let s = slot.0;
-    if s == 0 {
-        9216
-    } else {
-        9216 + 2 * ((s - 1) as usize)
-    }
+    9216 + 2 * usize::from(slot.0.saturating_sub(1))
 }
 
 // The code kept for a slot.

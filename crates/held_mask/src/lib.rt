@@ -33,16 +33,14 @@ pub fn mask_iodp(t: &[u8]) -> u8
 }
 
 // Whether the bits held are those of these 32 bytes, 51 of them a turn. The 256th is not looked at.
-fn same_bits(t: &[u8], bytes: [u8; 32]) -> bool
-    ensures { result ≡ same_bits (bits_at t.now) (bits_of bytes) }
+fn same_bits(t: &[u8], bytes: &[u8]) -> bool
+    ensures { result ≡ same_bits (bits_at t.now) (bits_of bytes.now) }
 {
-    let mut k: usize = 0;
-    while k < 5 {
+    for k in 0..5 {
         let i = 51 * k;
-        if bits::get(t, 32 + i, 51) != bits::get(&bytes, i, 51) {
+        if bits::get(t, 32 + i, 51) != bits::get(bytes, i, 51) {
             return false;
         }
-        k += 1;
     }
     true
 }
@@ -60,16 +58,14 @@ pub fn same_mask(t: &[u8], m: MaskPart) -> bool
     if mask_iodp(t) != m.iodp {
         return false;
     }
-    let bytes = m.bytes;
-    same_bits(t, bytes)
+    same_bits(t, &m.bytes)
 }
 
 // A mask is kept.
 pub fn put_mask(t: &mut [u8], m: MaskPart)
     ensures { t.new ≡ put_mask t.old m }
 {
-    let bytes = m.bytes;
-    let head = [1u8, m.ssr, m.iodp];
-    lent::store(t, 4, &bytes);
+    let head = [1, m.ssr, m.iodp];
+    lent::store(t, 4, &m.bytes);
     lent::store(t, 1, &head);
 }

@@ -1,11 +1,19 @@
 -- The bytes of an orbit, of equal parts.
 use mathlib.Core.Path.{◌≡◌}
 use mathlib.Core.List.{List, [], ◌∷◌}
-use Prim.Native.Nat.{ℕ, ◌/◌, ◌%◌}
+use Prim.Native.Nat.{ℕ}
+use lib.ListN.{get_or}
+
+-- what the digits of two and of four bytes make
+abbrev two : List ℕ → List ℕ → List ℕ
+two x rest = get_or x 0 0 ∷ get_or x 1 0 ∷ rest
+
+abbrev four : List ℕ → List ℕ → List ℕ
+four x rest = get_or x 0 0 ∷ get_or x 1 0 ∷ get_or x 2 0 ∷ get_or x 3 0 ∷ rest
 
 -- the bytes of equal parts
-abbrev pub parts : ℕ → ℕ → ℕ → ℕ → ℕ → ℕ → ℕ → ℕ → ℕ → ℕ → List ℕ
-parts h e s i o r a c k q = h ∷ e / 65536 / 256 ∷ e / 65536 % 256 ∷ e % 65536 / 256 ∷ e % 65536 % 256 ∷ s ∷ i / 256 ∷ i % 256 ∷ o ∷ r / 256 ∷ r % 256 ∷ a / 256 ∷ a % 256 ∷ c / 256 ∷ c % 256 ∷ k ∷ q / 65536 / 256 ∷ q / 65536 % 256 ∷ q % 65536 / 256 ∷ q % 65536 % 256 ∷ 0 ∷ 0 ∷ 0 ∷ 0 ∷ []
+abbrev pub parts : ℕ → List ℕ → ℕ → List ℕ → ℕ → List ℕ → List ℕ → List ℕ → ℕ → List ℕ → List ℕ
+parts h e s i o r a c k q = h ∷ four e (s ∷ two i (o ∷ two r (two a (two c (k ∷ four q (0 ∷ 0 ∷ 0 ∷ 0 ∷ []))))))
 
-pub bytes_made : (e s i o : ℕ) {h h' r r' a a' c c' k k' q q' : ℕ} → h ≡ h' → r ≡ r' → a ≡ a' → c ≡ c' → k ≡ k' → q ≡ q' → parts h e s i o r a c k q ≡ parts h' e s i o r' a' c' k' q'
-bytes_made e s i o h r a c k q = rw (h, r, a, c, k, q)
+pub bytes_made : (s o : ℕ) {h h' k k' : ℕ} {e e' i i' r r' a a' c c' q q' : List ℕ} → h ≡ h' → e ≡ e' → i ≡ i' → r ≡ r' → a ≡ a' → c ≡ c' → k ≡ k' → q ≡ q' → parts h e s i o r a c k q ≡ parts h' e' s i' o r' a' c' k' q'
+bytes_made s o h e i r a c k q = rw (h, e, i, r, a, c, k, q)

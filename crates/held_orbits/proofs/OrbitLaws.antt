@@ -21,18 +21,28 @@ use Rattle.ura.specs.Ura.{quarters_in}
 use Rattle.ura.proofs.UraLaws.{kind_back}
 use Rattle.held_mask.specs.Size.{size}
 use Rattle.newest.specs.Newest.{replaces, stamp_at}
+use Rattle.newest.specs.Rows.{replaces_row, comes_to}
+use Rattle.newest.specs.declared.Rows.{Rows}
+use Rattle.newest.proofs.RowLaws.{comes_replaces, came_no}
 use Rattle.held_orbits.specs.Orbits.{orbit_stamp, orbit_replaces, held_orbit_at, orbit_offset, no_orbit, held_orbit_bytes, held_orbit_in, held_orbit_of, held_orbits_at, put_orbit, orbit_comes, replace_orbit}
 use Rattle.held_orbits.specs.declared.HeldOrbit.{HeldOrbit}
 use Rattle.held_orbits.proofs.ReadLaws.{orbit_none}
 
 -- ---- what decides of the orbit that a row says
-pub orbit_row_lem : (r : List ℕ) (h : HeldOrbit) → replaces (eqb (get_or r 0 0) 1) (stamp_at r 1 5 8) (orbit_stamp h) ≡ orbit_replaces (held_orbit_of r) h
+abbrev pub orbit_rows : Rows
+orbit_rows = record { first = 3096; size = 24; epoch = 1; ssr = 5; corr = 8 }
+
+orbit_row_lem : (h : HeldOrbit) (r : List ℕ) → replaces_row r orbit_rows (orbit_stamp h) ≡ orbit_replaces (held_orbit_of r) h
 unfolding replaces orbit_replaces
-orbit_row_lem r h = go (eqb (get_or r 0 0) 1)
+orbit_row_lem h r = go (eqb (get_or r 0 0) 1)
   where
     go : (b : Bool) → replaces b (stamp_at r 1 5 8) (orbit_stamp h) ≡ orbit_replaces (pick b (held_orbit_in r) no_orbit) h
     go true = refl
     go false = refl
+
+-- an orbit comes into force where it replaces the one kept for its slot; slot 0 is none
+pub orbit_row_comes : (s : List ℕ) (slot : ℕ) (h : HeldOrbit) → comes_to s orbit_rows slot (orbit_stamp h) ≡ orbit_comes s slot h
+orbit_row_comes s slot h = comes_replaces orbit_replaces held_orbit_of s orbit_rows slot (orbit_stamp h) h (orbit_row_lem h)
 
 -- ---- there and back
 pub orbit_long : (h : HeldOrbit) → length (held_orbit_bytes h) ≡ 24
@@ -82,8 +92,7 @@ module _ (s : List ℕ) (slot : ℕ) (h : HeldOrbit) where
   orbit_came e = rw (both_hold (not (eqb slot 0)) (comes_in orbit_replaces held_orbit_of 24 s 3096 slot h) e).1
 
   pub orbit_stayed : orbit_comes s slot h ≡ false → replace_orbit s slot h ≡ s
-  unfolding replace_held
-  orbit_stayed e = dite (ℕ_discrete slot 0) (λ z. rw z (replace_none orbit_replaces no_orbit held_orbit_of held_orbit_bytes 24 orbit_long s 3096 h)) (λ n. let t : comes_in orbit_replaces held_orbit_of 24 s 3096 slot h ≡ false = rw (ne_eqb slot 0 n) at e in rw t)
+  orbit_stayed e = sym (came_no orbit_replaces no_orbit held_orbit_of held_orbit_bytes 24 orbit_long s 3096 slot h e)
 
 -- an orbit for a slot of a ledger's bytes comes into force where it replaces the one held
 pub comes_in_lem : (s : List ℕ) (slot : ℕ) (h : HeldOrbit) → length s ≡ size → 1 ≤ slot → slot ≤ 255 → orbit_comes s slot h ≡ orbit_replaces (held_orbit_at s slot) h

@@ -2,12 +2,20 @@
 #![tactic(auto)]
 
 ghost use Rattle.std.specs.Prelude.{◌≡◌};
-ghost use Rattle.bits.specs.Bytes.{store_at};
-ghost use Rattle.held_orbits.specs.Orbits.{no_orbit, held_orbit_bytes, orbit_offset, orbit_replaces, held_orbit_of, orbit_target, held_orbit_at, orbit_comes, replace_orbit};
+ghost use Rattle.held_orbits.specs.Orbits.{no_orbit, held_orbit_bytes, held_orbit_at, orbit_comes, replace_orbit};
 
-use newest::Stamp;
+use newest::{Rows, Stamp};
 use slots::Slot;
 use ura::{Ura, held_ura, ura_kind, ura_quarters};
+
+// How orbits are kept: 24 bytes for each slot.
+const ORBITS: Rows = Rows {
+    first: 3096,
+    size: 24,
+    epoch: 1,
+    ssr: 5,
+    corr: 8,
+};
 
 // An orbit as it is kept: its part's epoch and IOD SSR. Radial, along and cross are raw.
 #[derive(Clone, Copy)]
@@ -44,69 +52,33 @@ pub fn no_orbit() -> HeldOrbit
 fn orbit_bytes(h: HeldOrbit) -> [u8; 24]
     ensures { result ≡ held_orbit_bytes h }
 {
-    let has = lent::flag(h.has);
-    let eh = h.epoch / 65536;
-    let el = h.epoch % 65536;
-    let ra = lent::zig(h.radial);
-    let al = lent::zig(h.along);
-    let cr = lent::zig(h.cross);
     let u = h.ura;
-    let k = ura_kind(u);
-    let q = ura_quarters(u);
-    let qh = q / 65536;
-    let ql = q % 65536;
+    let [e0, e1, e2, e3] = h.epoch.to_be_bytes();
+    let [i0, i1] = h.iodn.to_be_bytes();
+    let [r0, r1] = lent::zig(h.radial).to_be_bytes();
+    let [a0, a1] = lent::zig(h.along).to_be_bytes();
+    let [c0, c1] = lent::zig(h.cross).to_be_bytes();
+    let [q0, q1, q2, q3] = ura_quarters(u).to_be_bytes();
+    let has = lent::flag(h.has);
+    let kind = ura_kind(u);
     [
-        has,
-        (eh / 256) as u8,
-        (eh % 256) as u8,
-        (el / 256) as u8,
-        (el % 256) as u8,
-        h.ssr,
-        (h.iodn / 256) as u8,
-        (h.iodn % 256) as u8,
-        h.corr,
-        (ra / 256) as u8,
-        (ra % 256) as u8,
-        (al / 256) as u8,
-        (al % 256) as u8,
-        (cr / 256) as u8,
-        (cr % 256) as u8,
-        k,
-        (qh / 256) as u8,
-        (qh % 256) as u8,
-        (ql / 256) as u8,
-        (ql % 256) as u8,
-        0,
-        0,
-        0,
-        0,
+        has, e0, e1, e2, e3, h.ssr, i0, i1, h.corr, r0, r1, a0, a1, c0, c1, kind, q0, q1, q2, q3,
+        0, 0, 0, 0,
     ]
-}
-
-// Where the orbit of a slot begins.
-fn orbit_offset(slot: Slot) -> usize
-    ensures { result ≡ orbit_offset slot.0 }
-{
-    let s = slot.0;
-    if s == 0 {
-        3096
-    } else {
-        3096 + 24 * ((s - 1) as usize)
-    }
 }
 
 // Whether an orbit is kept for a slot: its first byte says it.
 pub fn has_orbit(t: &[u8], slot: Slot) -> bool
     ensures { result ≡ (held_orbit_at t.now slot.0).has }
 {
-    lent::byte(t, orbit_offset(slot)) == 1
+    lent::byte(t, ORBITS.offset(slot.0)) == 1
 }
 
 // The orbit kept for a slot.
 pub fn get_orbit(t: &[u8], slot: Slot) -> HeldOrbit
     ensures { result ≡ held_orbit_at t.now slot.0 }
 {
-    let at = orbit_offset(slot);
+    let at = ORBITS.offset(slot.0);
     if lent::byte(t, at) != 1 {
         return no_orbit();
     }
@@ -131,55 +103,19 @@ pub fn get_orbit(t: &[u8], slot: Slot) -> HeldOrbit
     }
 }
 
-// Whether an orbit replaces the one that a row of bytes says.
-fn orbit_replaces(r: &[u8], h: HeldOrbit) -> bool
-    ensures { result ≡ orbit_replaces (held_orbit_of r.now) h }
+// An orbit is kept for a slot where it replaces the one kept there now; slot 0 is none. Answers whether it came into force.
+pub fn replace_orbit(t: &mut [u8], slot: Slot, h: HeldOrbit) -> bool
+    ensures came { result ≡ orbit_comes t.old slot.0 h }
+    ensures bytes { t.new ≡ replace_orbit t.old slot.0 h }
 {
     let new = Stamp {
         ssr: h.ssr,
         corr: h.corr,
         epoch: h.epoch,
     };
-    newest::replaces_in(r, 1, 5, 8, new)
-}
-
-// Where an orbit is stored: at its slot's offset if it replaces the one kept there, else past the end, where it is lost.
-fn orbit_target(t: &[u8], slot: Slot, h: HeldOrbit) -> usize
-    ensures { result ≡ orbit_target t.now slot.0 h }
-{
-    if slot.0 == 0 {
-        return t.len();
+    if !ORBITS.replaces(t, slot.0, new) {
+        return false;
     }
-    let at = orbit_offset(slot);
-    let end = at + 24;
-    if t.len() < end {
-        return t.len();
-    }
-    if orbit_replaces(&t[at..end], h) {
-        at
-    } else {
-        t.len()
-    }
-}
-
-// The bytes of an orbit are stored from `at` on; past the end they are lost.
-fn put_at(t: &mut [u8], at: usize, h: HeldOrbit)
-    ensures { t.new ≡ store_at t.old at (held_orbit_bytes h) }
-{
-    if at >= t.len() {
-        return;
-    }
-    let b = orbit_bytes(h);
-    lent::store(t, at, &b);
-}
-
-// An orbit is kept for a slot where it replaces the one kept there now; slot 0 is none. Answers whether it came into force.
-pub fn replace_orbit(t: &mut [u8], slot: Slot, h: HeldOrbit) -> bool
-    ensures came { result ≡ orbit_comes t.old slot.0 h }
-    ensures bytes { t.new ≡ replace_orbit t.old slot.0 h }
-{
-    let at = orbit_target(t, slot, h);
-    let came = at < t.len();
-    put_at(t, at, h);
-    came
+    lent::store(t, ORBITS.offset(slot.0), &orbit_bytes(h));
+    true
 }

@@ -7,7 +7,7 @@ use console::words::next_word;
 pub fn least(a: usize, b: usize) -> usize
     ensures { (result ≤ a) × (result ≤ b) }
 {
-    if a < b { a } else { b }
+    a.min(b)
 }
 
 // Whether a line has nothing from a position on, but for a comment.
@@ -15,8 +15,5 @@ pub(crate) fn is_over(s: &[u8], at: usize) -> bool {
     let w = next_word(s, at);
     let a = w.from;
     let b = w.to;
-    if a == b {
-        return true;
-    }
-    console::words::starts(&s[a..b], b'#')
+    a == b || console::words::starts(&s[a..b], b'#')
 }

@@ -7,7 +7,7 @@ use std::io::Error;
 
 // Opens a file for reading; nothing where it cannot be opened, and it has been said why.
 pub fn open_named(rt: &HostRuntime, program: &[u8], name: &[u8]) -> Option<Input> {
-    if console::words::same(name, b"-") {
+    if name == b"-".as_slice() {
         return Some(standard(rt));
     }
     match open(rt, name) {
@@ -23,7 +23,7 @@ pub fn open_named(rt: &HostRuntime, program: &[u8], name: &[u8]) -> Option<Input
 pub fn is_arg(rt: &HostRuntime, i: usize, word: &[u8]) -> bool {
     let mut room = io::buffer();
     let n = argument(rt, i, &mut room).count;
-    console::words::same(&room[..n], word)
+    &room[..n] == word
 }
 
 // Whether argument i is an option: a minus sign and more.
@@ -36,16 +36,15 @@ pub fn is_option(rt: &HostRuntime, i: usize) -> bool {
 // Why what a path names cannot be found or reached, where that is so; and whether it is a file or a folder, which can be opened and closed without
 // a trace. A pipe is let be, since whoever writes to it would be cut off.
 fn is_lasting(rt: &HostRuntime, path: &str) -> Result<bool, Error> {
-    match fs::metadata(rt, path) {
-        Ok(found) => Ok(found.is_file() | found.is_dir()),
-        Err(e) => Err(e),
-    }
+    let found = fs::metadata(rt, path)?;
+    Ok(found.is_file() || found.is_dir())
 }
 
 // Why the file of a path may not be read, where that is so.
 fn refused_path(rt: &HostRuntime, path: &str, name: &[u8]) -> Option<Error> {
     match is_lasting(rt, path) {
-        Ok(lasting) => { if lasting { open(rt, name).err() } else { None } }
+        Ok(true) => open(rt, name).err(),
+        Ok(false) => None,
         Err(e) => Some(e),
     }
 }
@@ -71,7 +70,7 @@ fn is_input_open(rt: &HostRuntime, program: &[u8]) -> bool {
 
 // Whether the file of a name may be read; where not, it has been said why.
 fn may_read(rt: &HostRuntime, program: &[u8], name: &[u8]) -> bool {
-    if console::words::same(name, b"-") {
+    if name == b"-".as_slice() {
         return is_input_open(rt, program);
     }
     match refused(rt, name) {
@@ -97,12 +96,5 @@ pub fn is_readable(rt: &HostRuntime, program: &[u8], i: usize) -> bool {
 
 // Whether each file from argument i on may be read.
 pub fn all_readable(rt: &HostRuntime, program: &[u8], i: usize, count: usize) -> bool {
-    let mut k = i;
-    while k < count {
-        if !is_readable(rt, program, k) {
-            return false;
-        }
-        k += 1;
-    }
-    true
+    (i..count).all(|k| is_readable(rt, program, k))
 }

@@ -9,13 +9,8 @@ pub fn hear(issues: &mut [u16], prn: u8, s: &[u8]) -> u8
     ensures refusal { result ≡ heard_refusal issues.old prn s.now }
     ensures entries { issues.new ≡ heard issues.old prn s.now }
 {
-    let r = subframe2::read(s);
-    let v = r.verdict;
-    let n = number_of(v);
-    if n != 0 {
-        return n;
+    if let Err(r) = subframe2::read(s) {
+        return number_of(Err(r));
     }
-    let iodc = bits::get16(s, 21, 10);
-    let j = joining::join(issues, prn as u16, iodc);
-    number_of(j)
+    number_of(joining::join(issues, prn as u16, bits::get16(s, 21, 10)))
 }

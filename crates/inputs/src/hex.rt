@@ -7,44 +7,26 @@ ghost use Rattle.inputs.specs.Hex.{digit_of, is_no_digit, is_hex, count_of, Hexe
 fn digit_of(b: u8) -> u8
     ensures { result ≡ digit_of b }
 {
-    if b < 48 {
-        return 16;
+    match b {
+        b'0'..=b'9' => b - b'0',
+        b'A'..=b'F' => b - b'A' + 10,
+        b'a'..=b'f' => b - b'a' + 10,
+        _ => 16,
     }
-    if b < 58 {
-        return b - 48;
-    }
-    if b < 65 {
-        return 16;
-    }
-    if b < 71 {
-        return b - 55;
-    }
-    if b < 97 {
-        return 16;
-    }
-    if b < 103 { b - 87 } else { 16 }
 }
 
 // Whether some byte of a word is no digit.
 fn any_no_digit(w: &[u8]) -> bool
     ensures { result ≡ any_of is_no_digit w.now }
 {
-    let mut i: usize = 0;
-    while i < w.len() {
-        if digit_of(w[i]) > 15 {
-            return true;
-        }
-        i += 1;
-    }
-    false
+    w.iter().any(|&b| digit_of(b) > 15)
 }
 
 // Whether a word is an even number of digits.
 pub fn is_hex(w: &[u8]) -> bool
     ensures { result ≡ is_hex w.now }
 {
-    let other = any_no_digit(w);
-    (0 < w.len()) & (w.len() % 2 == 0) & !other
+    0 < w.len() && w.len() % 2 == 0 && !any_no_digit(w)
 }
 
 // The byte that two digits say.
@@ -60,7 +42,7 @@ fn byte_of(high: u8, low: u8) -> u8
 fn count_of(digits: usize, room: usize) -> usize
     ensures { (result ≡ count_of digits room) × (result ≤ room) × (2 * result ≤ digits) }
 {
-    if digits / 2 < room { digits / 2 } else { room }
+    (digits / 2).min(room)
 }
 
 // The bytes that a word says are put at the room's start, as many as it takes; the answer is how many.
@@ -68,10 +50,8 @@ pub fn bytes_into(w: &[u8], room: &mut [u8]) -> usize
     ensures { Hexed w.now room.old result room.new }
 {
     let n = count_of(w.len(), room.len());
-    let mut i: usize = 0;
-    while i < n {
+    for i in 0..n {
         room[i] = byte_of(w[2 * i], w[2 * i + 1]);
-        i += 1;
     }
     n
 }

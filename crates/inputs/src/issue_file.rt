@@ -1,4 +1,5 @@
 // The issues of the broadcast messages, from a text file: a line such as C19 37 for each satellite.
+ghost use Rattle.std.specs.Prelude.{◌≤◌, IfOk, IfSome};
 ghost use Rattle.console.specs.Lines.{Inside};
 
 use crate::ends::{is_over, least};
@@ -8,98 +9,64 @@ use console::args::argument;
 use console::input::Input;
 use console::lines::{Lines, Step, next_line};
 use console::say::{say_found, say_where};
-use console::words::{Number, next_word, number_of, text_start};
+use console::turns::Turn;
+use console::words::{Word, next_word, number_of, text_start};
 
-// What a line gives: nothing, a slot's issue, or a fault by its number, with the word that is wrong: from one position of the line to another.
+// What is wrong with a line: it has no satellite, no issue, or something behind them; with the word that is wrong.
 #[derive(Clone, Copy)]
-enum Given {
-    Nothing,
-    Issue(u8, u16),
-    Fault(u8, usize, usize),
+enum Fault {
+    Satellite(Word),
+    Issue(Word),
+    End(Word),
 }
 
 // The issue that the last word of a line says, from a position on.
-fn issue_at(s: &[u8], at: usize, slot: u8) -> Given {
+fn issue_at(s: &[u8], at: usize) -> Result<u16, Fault> {
     let w = next_word(s, at);
-    let a = w.from;
-    let b = w.to;
-    let n = number_of(&s[a..b]);
-    let Number::Value(x) = n else {
-        return Given::Fault(2, a, b);
+    let from = w.from;
+    let to = w.to;
+    let Some(x @ 0..=1023) = number_of(&s[from..to]) else {
+        return Err(Fault::Issue(w));
     };
-    if x > 1023 {
-        return Given::Fault(2, a, b);
+    if !is_over(s, to) {
+        return Err(Fault::End(next_word(s, to)));
     }
-    if !is_over(s, b) {
-        let z = next_word(s, b);
-        return Given::Fault(3, z.from, z.to);
-    }
-    Given::Issue(slot, x as u16)
+    Ok(x as u16)
 }
 
-// What a line gives, from a position on.
-fn line_gives(s: &[u8], at: usize) -> Given {
+// The slot and the issue that a line gives from a position on, if it says anything.
+fn line_gives(s: &[u8], at: usize) -> Result<Option<(u8, u16)>, Fault>
+    ensures { IfOk result (λ g. IfSome g (λ p. (1 ≤ p.0) × (p.0 ≤ 174))) }
+{
     let w = next_word(s, at);
-    let a = w.from;
-    let b = w.to;
+    let from = w.from;
+    let to = w.to;
     if is_over(s, at) {
-        return Given::Nothing;
+        return Ok(None);
     }
-    let slot = satellite(&s[a..b]);
-    if slot == 0 {
-        return Given::Fault(1, a, b);
-    }
-    issue_at(s, b, slot)
+    let Some(slot) = satellite(&s[from..to]) else {
+        return Err(Fault::Satellite(w));
+    };
+    let issue = issue_at(s, to)?;
+    Ok(Some((slot, issue)))
 }
 
 // A fault of a line, in words, with the word that is wrong.
-fn say_fault(rt: &HostRuntime, program: &[u8], name: &[u8], number: u64, fault: u8, word: &[u8]) {
-    if fault == 1 {
-        say_found(
-            rt,
-            program,
-            name,
-            number,
-            b"expected a satellite: C01 to C63, or G, E or R with 01 to 37",
-            word,
-        );
-        return;
-    }
-    if fault == 2 {
-        say_found(
-            rt,
-            program,
-            name,
-            number,
-            b"expected an issue, 0 to 1023",
-            word,
-        );
-        return;
-    }
-    say_found(
-        rt,
-        program,
-        name,
-        number,
-        b"expected the end of the line after the issue",
-        word,
-    );
-}
-
-// The fault of a line whose wrong word stands between two positions.
-fn say_fault_at(
-    rt: &HostRuntime,
-    program: &[u8],
-    name: &[u8],
-    number: u64,
-    fault: u8,
-    s: &[u8],
-    from: usize,
-    to: usize,
-) {
-    let b = least(to, s.len());
-    let a = least(from, b);
-    say_fault(rt, program, name, number, fault, &s[a..b]);
+fn say_fault(rt: &HostRuntime, program: &[u8], name: &[u8], number: u64, s: &[u8], fault: Fault) {
+    let (what, w) = match fault {
+        Fault::Satellite(w) => (
+            b"expected a satellite: C01 to C63, or G, E or R with 01 to 37".as_slice(),
+            w,
+        ),
+        Fault::Issue(w) => (b"expected an issue, 0 to 1023".as_slice(), w),
+        Fault::End(w) => (
+            b"expected the end of the line after the issue".as_slice(),
+            w,
+        ),
+    };
+    let to = least(w.to, s.len());
+    let from = least(w.from, to);
+    say_found(rt, program, name, number, what, &s[from..to]);
 }
 
 // A satellite is named a second time.
@@ -120,11 +87,10 @@ fn put_issue(
     issue: u16,
     issues: &mut [u16; 255],
     seen: &mut [u64; 255],
-) -> bool {
-    if slot == 0 {
-        return false;
-    }
-    let i = slot as usize - 1;
+) -> bool
+    requires { (1 ≤ slot) × (slot ≤ 174) }
+{
+    let i = usize::from(slot) - 1;
     let before = seen[i];
     if before != 0 {
         say_twice(rt, program, name, number, before);
@@ -145,20 +111,17 @@ fn take_line(
     issues: &mut [u16; 255],
     seen: &mut [u64; 255],
 ) -> bool {
-    let g = line_gives(s, text_start(s, number));
-    match g {
-        Given::Nothing => true,
-        Given::Issue(slot, issue) => put_issue(
-            rt, program, name, number, slot, issue, issues, seen,
-        ),
-        Given::Fault(fault, from, to) => {
-            say_fault_at(rt, program, name, number, fault, s, from, to);
+    match line_gives(s, text_start(s, number)) {
+        Ok(None) => true,
+        Ok(Some((slot, issue))) => put_issue(rt, program, name, number, slot, issue, issues, seen),
+        Err(fault) => {
+            say_fault(rt, program, name, number, s, fault);
             false
         }
     }
 }
 
-// A step of the reading: 0 to go on, 1 at the end, 2 where something is wrong.
+// A step of the reading: how the turn ended.
 fn turn(
     rt: &HostRuntime,
     program: &[u8],
@@ -167,17 +130,17 @@ fn turn(
     l: Lines,
     issues: &mut [u16; 255],
     seen: &mut [u64; 255],
-) -> u8
+) -> Turn
     requires { Inside l room.now }
 {
     let a = l.start;
     let b = l.end;
     let step = l.step;
     match step {
-        Step::End => 1,
+        Step::End => Turn::Ended,
         Step::Failed(e) => {
             console::say::say_errno(rt, program, name, e);
-            2
+            Turn::Wrong
         }
         Step::Long => {
             say_where(
@@ -188,13 +151,13 @@ fn turn(
                 l.number,
                 b"longer than 65536 bytes",
             );
-            2
+            Turn::Wrong
         }
         Step::Line => {
             if take_line(rt, program, name, l.number, &room[a..b], issues, seen) {
-                0
+                Turn::Nothing
             } else {
-                2
+                Turn::Wrong
             }
         }
     }
@@ -211,15 +174,14 @@ fn all_lines(
     seen: &mut [u64; 255],
 ) -> bool {
     let mut l = console::lines::begin();
-    let mut state: u8 = 0;
-    let mut left = u64::MAX;
-    while left > 0 && state == 0 {
-        let next = next_line(input, room, l);
-        l = next;
-        state = turn(rt, program, name, room, next, issues, seen);
-        left -= 1;
+    for _ in 0..u64::MAX {
+        l = next_line(input, room, l);
+        let t = turn(rt, program, name, room, l, issues, seen);
+        if !t.goes_on() {
+            return t == Turn::Ended;
+        }
     }
-    state == 1
+    false
 }
 
 // Whether argument i is an ISSUES file that may be read, or none; where not, it has been said why.

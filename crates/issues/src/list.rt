@@ -14,8 +14,8 @@ fn put_issue(room: &mut [u8], at: usize, slot: u8, issue: u16) -> usize
     }
     let a = put_name(room, at, Slot(slot));
     let b = put_byte(room, a, b' ');
-    let c = put_number(room, b, issue as u64);
-    put_byte(room, c, 10)
+    let c = put_number(room, b, u64::from(issue));
+    put_byte(room, c, b'\n')
 }
 
 // The lines of all slots that a satellite has, rising.
@@ -23,11 +23,8 @@ fn put_issues(room: &mut [u8], issues: &[u16; 255]) -> usize
     ensures { IsPrefixLen result room.new }
 {
     let mut n = cursor_in(room, 0);
-    let mut slot: u8 = 0;
-    while slot < 174 {
-        let issue = issues[slot as usize];
-        slot += 1;
-        n = put_issue(room, n, slot, issue);
+    for slot in 1..=174u8 {
+        n = put_issue(room, n, slot, issues[usize::from(slot) - 1]);
     }
     n
 }
@@ -37,7 +34,8 @@ pub(crate) fn write(rt: &HostRuntime, issues: &[u16; 255]) -> u8 {
     let mut room = io::buffer();
     let n = put_issues(&mut room, issues);
     if console::out::write(rt, b"issues", &room[..n]) {
-        return 0;
+        0
+    } else {
+        1
     }
-    1
 }

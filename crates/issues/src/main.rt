@@ -60,7 +60,7 @@ fn run_both(rt: &HostRuntime, a: Args) -> u8 {
     if i > 3 {
         return usage(rt);
     }
-    if is_option(rt, a, 1) | is_option(rt, a, 2) {
+    if is_option(rt, a, 1) || is_option(rt, a, 2) {
         return usage(rt);
     }
     if !inputs::issue_file::may_read_issues(rt, b"issues", i + 1) {
@@ -82,7 +82,7 @@ fn run(rt: &HostRuntime, a: Args) -> u8 {
     if count == 1 {
         return run_file(rt, a);
     }
-    if (count == 3) & own_is(rt, a, 0, b"-i") {
+    if count == 3 && own_is(rt, a, 0, b"-i") {
         return run_both(rt, a);
     }
     usage(rt)

@@ -6,53 +6,29 @@ use console::lines::{Lines, Step, next_line};
 use console::put::{put_bytes, put_number};
 use console::refusals::put_refusal;
 use console::say::{say_found, say_where};
-use console::turns::{ENDED, NOTHING, WRITTEN, WRONG};
+use console::turns::Turn;
 use inputs::files::open_named;
 use inputs::hex::bytes_into;
-use inputs::record_lines::{CNAV1, NO_DIGITS, NO_SATELLITE, heard_of};
+use inputs::record_lines::{Fault, Kind, heard_of};
 
 // The subframe of a line is refused.
 fn say_refused(rt: &HostRuntime, name: &[u8], number: u64, refusal: u8) {
     let mut room = [0u8; 120];
     let a = put_bytes(&mut room, 0, b"refused ");
-    let b = put_number(&mut room, a, refusal as u64);
+    let b = put_number(&mut room, a, u64::from(refusal));
     let c = put_bytes(&mut room, b, b": ");
     let n = put_refusal(&mut room, c, refusal);
     say_where(rt, b"issues", name, b"line", number, &room[..n]);
 }
 
 // A line is no record: the word that is wrong.
-fn say_fault(rt: &HostRuntime, name: &[u8], number: u64, fault: u8, word: &[u8]) {
-    if fault == NO_SATELLITE {
-        say_found(
-            rt,
-            b"issues",
-            name,
-            number,
-            b"expected a BeiDou satellite, C01 to C63",
-            word,
-        );
-        return;
-    }
-    if fault == NO_DIGITS {
-        say_found(
-            rt,
-            b"issues",
-            name,
-            number,
-            b"expected an even number of hexadecimal digits",
-            word,
-        );
-        return;
-    }
-    say_found(
-        rt,
-        b"issues",
-        name,
-        number,
-        b"expected the end of the line after the subframe",
-        word,
-    );
+fn say_fault(rt: &HostRuntime, name: &[u8], number: u64, fault: Fault, word: &[u8]) {
+    let what = match fault {
+        Fault::Satellite => b"expected a BeiDou satellite, C01 to C63".as_slice(),
+        Fault::Digits => b"expected an even number of hexadecimal digits".as_slice(),
+        _ => b"expected the end of the line after the subframe".as_slice(),
+    };
+    say_found(rt, b"issues", name, number, what, word);
 }
 
 // The subframe that digits say is joined for a satellite, or it is said that it is refused.
@@ -73,33 +49,41 @@ fn hear_digits(
 }
 
 // A line: how the turn ended.
-fn hear_line(rt: &HostRuntime, name: &[u8], number: u64, s: &[u8], issues: &mut [u16; 255]) -> u8 {
+fn hear_line(
+    rt: &HostRuntime,
+    name: &[u8],
+    number: u64,
+    s: &[u8],
+    issues: &mut [u16; 255],
+) -> Turn {
     let r = heard_of(s, number);
     let from = r.from;
     let to = r.to;
-    if r.kind == CNAV1 {
-        hear_digits(rt, name, number, r.prn, &s[from..to], issues);
-        return WRITTEN;
+    let word = &s[from..to];
+    match r.kind {
+        Kind::Cnav1(prn) => {
+            hear_digits(rt, name, number, prn, word, issues);
+            Turn::Written
+        }
+        Kind::Wrong(fault) => {
+            say_fault(rt, name, number, fault, word);
+            Turn::Wrong
+        }
+        _ => Turn::Nothing,
     }
-    if r.kind == inputs::record_lines::NOTHING {
-        return NOTHING;
-    }
-    say_fault(rt, name, number, r.kind, &s[from..to]);
-    WRONG
 }
 
 // A step of the reading: how the turn ended.
-fn turn(rt: &HostRuntime, name: &[u8], room: &[u8], l: Lines, issues: &mut [u16; 255]) -> u8
+fn turn(rt: &HostRuntime, name: &[u8], room: &[u8], l: Lines, issues: &mut [u16; 255]) -> Turn
     requires { Inside l room.now }
 {
     let a = l.start;
     let b = l.end;
-    let step = l.step;
-    match step {
-        Step::End => ENDED,
+    match l.step {
+        Step::End => Turn::Ended,
         Step::Failed(e) => {
             console::say::say_errno(rt, b"issues", name, e);
-            WRONG
+            Turn::Wrong
         }
         Step::Long => {
             say_where(
@@ -110,7 +94,7 @@ fn turn(rt: &HostRuntime, name: &[u8], room: &[u8], l: Lines, issues: &mut [u16;
                 l.number,
                 b"longer than 65536 bytes",
             );
-            WRONG
+            Turn::Wrong
         }
         Step::Line => hear_line(rt, name, l.number, &room[a..b], issues),
     }
@@ -125,15 +109,14 @@ fn hear_lines(
     issues: &mut [u16; 255],
 ) -> bool {
     let mut l = console::lines::begin();
-    let mut state = NOTHING;
-    let mut left = u64::MAX;
-    while left > 0 && state < ENDED {
-        let next = next_line(input, room, l);
-        l = next;
-        state = turn(rt, name, room, next, issues);
-        left -= 1;
+    for _ in 0..u64::MAX {
+        l = next_line(input, room, l);
+        let t = turn(rt, name, room, l, issues);
+        if !t.goes_on() {
+            return t == Turn::Ended;
+        }
     }
-    state == ENDED
+    false
 }
 
 // An open file is heard; false where something is wrong.

@@ -1,19 +1,15 @@
 -- Laws of what is judged: where no record names a slot, no slot is above 255 and none stands twice.
 use mathlib.Core.Path.{◌≡◌, refl, sym, ap, ◌∙◌}
 use mathlib.Core.Logic.{◌≢◌, dite}
-use mathlib.Core.Bool.{Bool, true, false, not, ◌||◌}
+use mathlib.Core.Bool.{Bool, true, false, ◌||◌}
 use mathlib.Core.List.{List, [], ◌∷◌}
-use Prim.Native.Nat.{ℕ, ◌+◌, ◌-◌, ◌≤◌, ◌<◌}
+use Prim.Native.Nat.{ℕ, ◌+◌}
 use native.Mathlib.Decide.{ℕ_discrete}
 use native.Mathlib.Omega.{arith}
-use lib.Dec.{eqb}
-use lib.ListN.{length, drop}
 use borrow.Author.Tests.{ne_eqb}
 use Rattle.bits.specs.Pick.{pick}
 use Rattle.bits.specs.Table.{table}
 use Rattle.bits.specs.Some.{any_of}
-use Rattle.bits.proofs.SomeLaws.{some_step, some_end}
-use Rattle.bits.proofs.TableLaws.{length_table, get_or_table}
 use Rattle.layout.specs.Layout.{layout_of, end_of}
 use Rattle.biases.specs.Biases.{no_biases, bias_part_at, bias_heads_at}
 use Rattle.biases.specs.declared.BiasPart.{BiasPart}
@@ -41,19 +37,6 @@ high_none = none_named is_high (λ xs. refl)
 
 pub twice_none : (xs : List ℕ) → any_of is_named xs ≡ false → any_of is_again xs ≡ false
 twice_none = none_named is_again (λ xs. refl)
-
--- ---- a walk from the last record to the first, over the table of their slots
-module _ (slot : ℕ → ℕ) (n : ℕ) where
-  pub named_end : false ≡ any_of is_named (drop n (table slot n))
-  named_end = sym (some_end is_named (table slot n) n (rw (length_table slot n) (omega arith)))
-
-  -- one record more
-  pub named_turn : (i : ℕ) (seen : Bool) → 0 < i → i ≤ n → seen ≡ any_of is_named (drop i (table slot n)) →
-      (not (eqb (slot (i - 1)) 0) || seen) ≡ any_of is_named (drop (i - 1) (table slot n))
-  named_turn i seen l h e =
-      let j : i - 1 + 1 ≡ i = omega arith in
-      let k : i - 1 < length (table slot n) = rw (length_table slot n) (omega arith) in
-      rw (some_step is_named (table slot n) (i - 1) 0 k, get_or_table slot n (i - 1) 0 (omega arith), j, e)
 
 -- ---- what is absent is neither late, nor too high, nor there twice
 or_false : (b : Bool) → (b || false) ≡ b

@@ -2,6 +2,7 @@
 #![tactic(auto)]
 
 ghost use Rattle.std.specs.Prelude.{◌≡◌, ◌<◌};
+ghost use Rattle.verdict.specs.Verdict.{refused_says, refused_by};
 ghost use Rattle.judge.specs.Judge.{is_kind, is_late, late, bad_start, refusal_by, refusal_of, mask_refusal_of, parts_refusal_of, biases_refusal_of, codes_refusal_of};
 
 use biases::BiasPart;
@@ -9,6 +10,7 @@ use contents::parts::{ClockPart, Contents, MaskPart, OrbitPart};
 use layout::{end_of, layout_of};
 use record_slots::{clock_faults, orbit_faults, sat_faults};
 use ura_codes::CodePart;
+use verdict::Refused;
 
 // Whether the type is one that is read and written.
 fn is_kind(k: u8) -> bool
@@ -31,26 +33,26 @@ fn bad_start(kind: u8, count: u8, start: u16) -> bool
     (kind == 6) & (count > 0) & ((start == 0) | (start > 255))
 }
 
-// The lowest number of 8 to 12 that applies; 0 if none does.
-fn refusal_by(kind: u8, end: u32, late: bool, high: bool, again: bool) -> u8
-    ensures { result ≡ refusal_by kind end late high again }
+// The lowest number of 8 to 12 that applies, or none.
+fn refusal_by(kind: u8, end: u32, late: bool, high: bool, again: bool) -> Result<(), Refused>
+    ensures { refused_says result ≡ refused_by (refusal_by kind end late high again) }
 {
     if !is_kind(kind) {
-        return 8;
+        return Err(Refused(8));
     }
     if end > 462 {
-        return 9;
+        return Err(Refused(9));
     }
     if late {
-        return 10;
+        return Err(Refused(10));
     }
     if high {
-        return 11;
+        return Err(Refused(11));
     }
     if again {
-        return 12;
+        return Err(Refused(12));
     }
-    0
+    Ok(())
 }
 
 // Whether an epoch of contents is above 86399.
@@ -65,9 +67,9 @@ fn any_late(c: Contents) -> bool
     is_late(m.epoch) | is_late(k.epoch) | is_late(o.epoch) | is_late(b.epoch) | is_late(u.epoch)
 }
 
-// The lowest number of 8 to 12 that applies to contents whose parts end at end; 0 if none does.
-pub fn refusal_of(end: u32, c: Contents) -> u8
-    ensures { result ≡ refusal_of end c }
+// The lowest number of 8 to 12 that applies to contents whose parts end at end, or none.
+pub fn refusal_of(end: u32, c: Contents) -> Result<(), Refused>
+    ensures { refused_says result ≡ refused_by (refusal_of end c) }
 {
     let k = c.clock;
     let o = c.orbit;
@@ -89,15 +91,15 @@ pub fn refusal_of(end: u32, c: Contents) -> u8
 }
 
 // The same of a type 1 by its mask alone.
-pub fn refusal_of_mask(m: MaskPart) -> u8
-    ensures { result ≡ mask_refusal_of m }
+pub fn refusal_of_mask(m: MaskPart) -> Result<(), Refused>
+    ensures { refused_says result ≡ refused_by (mask_refusal_of m) }
 {
-    if m.epoch > 86399 { 10 } else { 0 }
+    refusal_by(1, 0, is_late(m.epoch), false, false)
 }
 
 // The same of a type that has clocks and orbits alone, or no part.
-pub fn refusal_of_parts(kind: u8, k: ClockPart, o: OrbitPart) -> u8
-    ensures { result ≡ parts_refusal_of kind k o }
+pub fn refusal_of_parts(kind: u8, k: ClockPart, o: OrbitPart) -> Result<(), Refused>
+    ensures { refused_says result ≡ refused_by (parts_refusal_of kind k o) }
 {
     let end = end_of(layout_of(kind, k.count, o.count));
     let late = is_late(k.epoch) | is_late(o.epoch);
@@ -110,8 +112,8 @@ pub fn refusal_of_parts(kind: u8, k: ClockPart, o: OrbitPart) -> u8
 }
 
 // The same of a type 3 by its biases, which end at end.
-pub fn refusal_of_biases(end: u32, b: BiasPart) -> u8
-    ensures { result ≡ biases_refusal_of end b }
+pub fn refusal_of_biases(end: u32, b: BiasPart) -> Result<(), Refused>
+    ensures { refused_says result ≡ refused_by (biases_refusal_of end b) }
 {
     let sats = b.sats;
     let bs = sat_faults(sats);
@@ -119,8 +121,8 @@ pub fn refusal_of_biases(end: u32, b: BiasPart) -> u8
 }
 
 // The same of a type 5 by its URA codes.
-pub fn refusal_of_codes(u: CodePart) -> u8
-    ensures { result ≡ codes_refusal_of u }
+pub fn refusal_of_codes(u: CodePart) -> Result<(), Refused>
+    ensures { refused_says result ≡ refused_by (codes_refusal_of u) }
 {
-    if u.epoch > 86399 { 10 } else { 0 }
+    refusal_by(5, 0, is_late(u.epoch), false, false)
 }

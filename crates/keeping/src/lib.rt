@@ -27,13 +27,9 @@ fn keep_orbit(t: &mut [u8], slot: Slot, h: HeldOrbit)
 fn orbits_by_slot(t: &mut [u8], p: OrbitPart)
     ensures { t.new ≡ kept_orbits t.old (orbits_of 2 p) }
 {
-    let os = p.orbits;
-    let mut j: usize = 0;
-    while j < 6 {
-        let o = os[j];
+    for &o in &p.orbits {
         let h = held_orbit(p.epoch, p.ssr, o);
         keep_orbit(t, slot_named(o.slot), h);
-        j += 1;
     }
 }
 

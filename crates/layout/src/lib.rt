@@ -1,7 +1,7 @@
 // What a type carries and how wide: 01, "Message fields, in order".
 #![tactic(auto)]
 
-ghost use Rattle.std.specs.Prelude.{◌≡◌, false};
+ghost use Rattle.std.specs.Prelude.{◌≡◌};
 ghost use Rattle.layout.specs.Layout.{layout_of, orbits_from, end_of};
 
 // How many records a message has, the bits in front of its parts, and the widths of the fields that only some types have.
@@ -16,49 +16,46 @@ pub struct Layout {
     pub slotted: bool,
 }
 
-// A layout with no mask.
-fn parted(head: u8, clocks: u8, orbits: u8, iodp: u8, start: u8, slotted: bool) -> Layout
-    ensures { result ≡ record { mask = false; head = head; clocks = clocks; orbits = orbits; iodp = iodp; start = start; slotted = slotted } }
-{
-    Layout {
-        mask: false,
-        head,
-        clocks,
-        orbits,
-        iodp,
-        start,
-        slotted,
-    }
-}
-
 // The layout of a type; NumC and NumO count in types 6 and 7 alone.
+#[tactic(auto, unfolding(crate::specs::Layout::layout_of))]
 pub fn layout_of(kind: u8, numc: u8, numo: u8) -> Layout
     ensures { result ≡ layout_of kind numc numo }
 {
-    if kind == 1 {
-        return Layout {
-            mask: true,
-            head: 6,
-            clocks: 0,
-            orbits: 0,
-            iodp: 0,
-            start: 0,
-            slotted: false,
-        };
+    let none = Layout {
+        mask: false,
+        head: 6,
+        clocks: 0,
+        orbits: 0,
+        iodp: 0,
+        start: 0,
+        slotted: false,
+    };
+    match kind {
+        1 => Layout { mask: true, ..none },
+        2 => Layout { orbits: 6, ..none },
+        4 => Layout {
+            clocks: 23,
+            iodp: 4,
+            start: 5,
+            ..none
+        },
+        6 => Layout {
+            head: 14,
+            clocks: numc,
+            orbits: numo,
+            iodp: 4,
+            start: 9,
+            ..none
+        },
+        7 => Layout {
+            head: 14,
+            clocks: numc,
+            orbits: numo,
+            slotted: true,
+            ..none
+        },
+        _ => none,
     }
-    if kind == 2 {
-        return parted(6, 0, 6, 0, 0, false);
-    }
-    if kind == 4 {
-        return parted(6, 23, 0, 4, 5, false);
-    }
-    if kind == 6 {
-        return parted(14, numc, numo, 4, 9, false);
-    }
-    if kind == 7 {
-        return parted(14, numc, numo, 0, 0, true);
-    }
-    parted(6, 0, 0, 0, 0, false)
 }
 
 // The bit after the clock part, counted from the message's first.

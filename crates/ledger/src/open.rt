@@ -6,7 +6,7 @@ ghost use Rattle.ledger.specs.Open.{open_refusal, open_bytes};
 
 use crate::Ledger;
 use frame::is_prn;
-use verdict::Verdict;
+use verdict::{Refusal, Verdict};
 
 // The bytes become a fresh ledger for the PRN, whatever they held before.
 pub fn make_fresh(t: &mut [u8], prn: u8)
@@ -24,8 +24,8 @@ pub fn open(ledger: &mut Ledger, prn: u8) -> Verdict
     ensures bytes { ledger.new ≡ open_bytes ledger.old prn }
 {
     if !is_prn(prn) {
-        return Verdict::Refused(4);
+        return Err(Refusal::Number(4));
     }
     make_fresh(ledger, prn);
-    Verdict::Taken
+    Ok(())
 }

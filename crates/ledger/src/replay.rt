@@ -6,9 +6,8 @@ ghost use Rattle.ledger.specs.Open.{open_refusal};
 ghost use Rattle.in_force.specs.Bytes.{take_says, take_bytes, frame_at, run_bytes, frames_of, Replayed};
 
 use crate::Ledger;
-use crate::open::make_fresh;
+use crate::open::open;
 use crate::take::take_in;
-use frame::is_prn;
 use verdict::Verdict;
 
 // How many frames a log of n bytes has: pieces of 125, and one more for what is left at the end.
@@ -40,11 +39,8 @@ pub fn take_nth(t: &mut [u8], log: &[u8], i: usize) -> Verdict
 pub fn take_log(t: &mut [u8], log: &[u8])
     ensures { t.new ≡ run_bytes t.old (frames_of log.now) }
 {
-    let n = frame_count(log.len());
-    let mut i: usize = 0;
-    while i < n {
-        take_nth(t, log, i);
-        i += 1;
+    for i in 0..frame_count(log.len()) {
+        let _ = take_nth(t, log, i);
     }
 }
 
@@ -53,10 +49,7 @@ pub fn replay(ledger: &mut Ledger, prn: u8, log: &[u8]) -> Verdict
     ensures verdict { says result ≡ refused_by (open_refusal prn) }
     ensures ledger { Replayed ledger.old prn log.now ledger.new }
 {
-    if !is_prn(prn) {
-        return Verdict::Refused(4);
-    }
-    make_fresh(ledger, prn);
+    open(ledger, prn)?;
     take_log(ledger, log);
-    Verdict::Taken
+    Ok(())
 }

@@ -16,7 +16,7 @@ use mask_reading::mask_of;
 use orbit_reading::orbits_of;
 use places::{code_refusal, place_verdict};
 use reading::{codes_of, end_at};
-use verdict::{Verdict, number_of};
+use verdict::Verdict;
 
 // The PRN that the ledger is for.
 fn ledger_prn(t: &[u8]) -> u8
@@ -32,12 +32,9 @@ fn take_type_1(t: &mut [u8], frame: &[u8]) -> Verdict
     ensures bytes { t.new ≡ take_bytes t.old frame.now }
 {
     let m = mask_of(frame, 28);
-    let n = refusal_of_mask(m);
-    if n != 0 {
-        return Verdict::Refused(n);
-    }
+    refusal_of_mask(m)?;
     take_mask(t, m);
-    Verdict::Taken
+    Ok(())
 }
 
 // What is said of a type 3 in a good frame, which leaves a ledger as it was.
@@ -47,11 +44,8 @@ fn type_3_verdict(t: &[u8], frame: &[u8]) -> Verdict
     ensures bytes { t.now ≡ take_bytes t.now frame.now }
 {
     let b = read_heads(frame, 34);
-    let n = refusal_of_biases(end_at(frame, 28), b);
-    if n != 0 {
-        return Verdict::Refused(n);
-    }
-    Verdict::Taken
+    refusal_of_biases(end_at(frame, 28), b)?;
+    Ok(())
 }
 
 // A type 5 in a good frame is taken, or refused.
@@ -61,16 +55,10 @@ fn take_type_5(t: &mut [u8], frame: &[u8]) -> Verdict
     ensures bytes { t.new ≡ take_bytes t.old frame.now }
 {
     let u = codes_of(frame, 28);
-    let n = refusal_of_codes(u);
-    if n != 0 {
-        return Verdict::Refused(n);
-    }
-    let placed = code_refusal(t, u);
-    if placed != 0 {
-        return Verdict::Refused(placed);
-    }
+    refusal_of_codes(u)?;
+    code_refusal(t, u)?;
     take_codes(t, u);
-    Verdict::Taken
+    Ok(())
 }
 
 // A message of another type in a good frame is taken, or refused.
@@ -85,17 +73,11 @@ fn take_parts(t: &mut [u8], frame: &[u8]) -> Verdict
     let kind = kind_of(frame, 28);
     let k = clocks_of(frame, 28);
     let o = orbits_of(frame, 28);
-    let n = refusal_of_parts(kind, k, o);
-    if n != 0 {
-        return Verdict::Refused(n);
-    }
-    let placed = place_verdict(t, kind, k);
-    if number_of(placed) != 0 {
-        return placed;
-    }
+    refusal_of_parts(kind, k, o)?;
+    place_verdict(t, kind, k)?;
     take_clocks(t, kind, k);
     take_orbits(t, kind, o);
-    Verdict::Taken
+    Ok(())
 }
 
 // A message in a good frame is taken, or refused.
@@ -122,10 +104,7 @@ pub fn take_in(t: &mut [u8], frame: &[u8]) -> Verdict
     ensures verdict { says result ≡ take_says t.old frame.now }
     ensures bytes { t.new ≡ take_bytes t.old frame.now }
 {
-    let shell = frame::shell_for(frame, ledger_prn(t));
-    if number_of(shell) != 0 {
-        return shell;
-    }
+    frame::shell_for(frame, ledger_prn(t))?;
     take_message(t, frame)
 }
 

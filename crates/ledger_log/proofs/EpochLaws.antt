@@ -4,8 +4,8 @@ use mathlib.Core.Logic.{◌≢◌, dite}
 use mathlib.Core.Bool.{Bool, true, false}
 use mathlib.Core.List.{List}
 use mathlib.Core.Option.{Option, none, some}
-use Prim.Native.Nat.{ℕ, ◌+◌, ◌*◌, ◌^◌}
-use native.Mathlib.Decide.{ℕ_discrete}
+use Prim.Native.Nat.{ℕ, ◌+◌, ◌*◌, ◌^◌, ◌<◌, min}
+use native.Mathlib.Decide.{ℕ_discrete, dec_lt}
 use native.Mathlib.Omega.{arith}
 use borrow.Author.Tests.{ne_eqb, lt-ltb, le-ltb}
 use lib.Dec.{eqb, ltb}
@@ -16,7 +16,14 @@ use Rattle.layout.specs.Layout.{layout_of}
 use Rattle.layout.specs.declared.Layout.{Layout}
 use Rattle.contents.specs.Parts.{mask_in, clocks_in, orbits_in, biases_in, codes_in, no_clocks, no_orbits, contents_at}
 use Rattle.frame.specs.Frame.{contents_of}
-use Rattle.ledger_log.specs.Epochs.{epoch_of, epoch_bit}
+use Rattle.ledger_log.specs.Epochs.{epoch_of, epoch_bit, one_more}
+
+-- one more, as far as 64 bits count
+pub as_far : (n : ℕ) → n < 18446744073709551616 → min (n + 1) 18446744073709551615 ≡ one_more n
+as_far n h =
+    dite (dec_lt n 18446744073709551615)
+    (λ l. rw (lt-ltb n 18446744073709551615 l) (omega arith))
+    (λ l. rw (le-ltb n 18446744073709551615 (omega arith)) (omega arith))
 
 -- the epoch at a bit, none at bit 0
 abbrev pub epoch_at : List ℕ → ℕ → Option ℕ

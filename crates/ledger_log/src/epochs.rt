@@ -1,9 +1,9 @@
 // The epochs of the accepted frames of a log: the first, the last, the longest gap, and the frames since the last.
-ghost use Rattle.std.specs.Prelude.{◌≡◌};
+ghost use Rattle.std.specs.Prelude.{◌≡◌, eqb, Some, None};
 ghost use Rattle.std.proofs.Math.Option.{none};
 ghost use Rattle.bits.specs.Pick.{pick};
 ghost use Rattle.frame.specs.Frame.{contents_of};
-ghost use Rattle.ledger_log.specs.Epochs.{epoch_of, no_epochs, lapse, longer, one_more, since_then, with_epoch, epochs_after, epoch_bit};
+ghost use Rattle.ledger_log.specs.Epochs.{epoch_of, no_epochs, lapse, longer, since_then, with_epoch, epochs_after, epoch_bit};
 
 // The epochs so far. Before the first, has is false and since counts all frames.
 #[derive(Clone, Copy)]
@@ -42,23 +42,13 @@ fn longer(gap: u32, d: u32) -> u32
     if (gap < d) & (d < 43200) { d } else { gap }
 }
 
-// One more frame, as far as 64 bits count.
-fn one_more(n: u64) -> u64
-    ensures { result ≡ one_more n }
-{
-    if n < 18446744073709551615 { n + 1 } else { n }
-}
-
 // After a frame that brings no epoch.
 fn since_then(e: Epochs) -> Epochs
     ensures { result ≡ since_then e }
 {
     Epochs {
-        has: e.has,
-        first: e.first,
-        last: e.last,
-        gap: e.gap,
-        since: one_more(e.since),
+        since: e.since.saturating_add(1),
+        ..e
     }
 }
 
@@ -69,35 +59,33 @@ fn with_epoch(e: Epochs, x: u32) -> Epochs
     if e.has {
         let gap = longer(e.gap, lapse(e.last, x));
         return Epochs {
-            has: true,
-            first: e.first,
             last: x,
             gap,
             since: 0,
+            ..e
         };
     }
     Epochs {
         has: true,
         first: x,
         last: x,
-        gap: 0,
-        since: 0,
+        ..no_epochs()
     }
 }
 
-// The bit at which the frame's epoch begins; 0 where it carries none.
-fn epoch_bit(frame: &[u8]) -> u8
-    ensures { result ≡ epoch_bit frame.now }
+// The bit at which the frame's epoch begins, where it carries one.
+fn epoch_bit(frame: &[u8]) -> Option<usize>
+    ensures { result ≡ pick (eqb (epoch_bit frame.now) 0) None (Some (epoch_bit frame.now)) }
 {
     let kind = bits::get8(frame, 28, 6);
     let counts = bits::get8(frame, 34, 8);
     if (kind == 1) | (kind == 2) | (kind == 3) | (kind == 4) | (kind == 5) {
-        return 34;
+        return Some(34);
     }
     if ((kind == 6) | (kind == 7)) & (0 < counts) {
-        return 42;
+        return Some(42);
     }
-    0
+    None
 }
 
 // The epochs after one more frame handed in; taken says whether the ledger took it.
@@ -107,9 +95,8 @@ pub fn after(e: Epochs, frame: &[u8], taken: bool) -> Epochs
     if !taken {
         return since_then(e);
     }
-    let at = epoch_bit(frame);
-    if at == 0 {
+    let Some(at) = epoch_bit(frame) else {
         return since_then(e);
-    }
-    with_epoch(e, bits::get32(frame, at as usize, 17))
+    };
+    with_epoch(e, bits::get32(frame, at, 17))
 }

@@ -1,48 +1,32 @@
 // Bytes of lent room: read, stored, cleared, and the numbers that they say.
 #![tactic(auto)]
 
-ghost use Rattle.std.specs.Prelude.{◌≡◌, ◌+◌, ◌-◌, ◌≤◌, ◌<◌, length, get_or, replicate};
+ghost use Rattle.std.specs.Prelude.{◌≡◌, ◌+◌, ◌≤◌, ◌<◌, length, get_or, take, replicate};
 ghost use Rattle.bits.specs.Bytes.{store_at};
 ghost use Rattle.lent.specs.Digits.{flag_of, zig_of, zag_of, pair_of, quad_of, two_at, four_at};
 
-// The bytes of r are stored from at on, where there is room for all of them.
-fn store_whole(t: &mut [u8], at: usize, r: &[u8])
-    requires { length r.now ≤ length t.old - at }
-    ensures { t.new ≡ store_at t.old at r.now }
+// The bytes of r that a room has place for are stored, where it has place for no more. Never inlined: two copies that end one function would be
+// compiled as one copy of an unknown length, and a caller of store mostly knows the length of r.
+#[inline(never)]
+fn store_part(room: &mut [u8], r: &[u8])
+    requires { length room.old ≤ length r.now }
+    ensures { room.new ≡ take (length room.old) r.now }
 {
-    let mut i: usize = 0;
-    while i < r.len() {
-        t[at + i] = r[i];
-        i += 1;
-    }
-}
-
-// The first n bytes of r are stored from at on, where there is room for no more. The very first comes last: two loops that both end in a copy would
-// be compiled as one copy of an unknown length, and a caller mostly knows the length of r.
-fn store_part(t: &mut [u8], at: usize, r: &[u8], n: usize)
-    requires { (n ≤ length r.now) × (n ≡ length t.old - at) }
-    ensures { t.new ≡ store_at t.old at r.now }
-{
-    if n == 0 {
-        return;
-    }
-    let mut k: usize = 1;
-    while k < n {
-        t[at + k] = r[k];
-        k += 1;
-    }
-    t[at] = r[0];
+    let n = room.len();
+    room.copy_from_slice(&r[..n]);
 }
 
 // The bytes of r are stored from at on; those past the end of t are lost.
 pub fn store(t: &mut [u8], at: usize, r: &[u8])
     ensures { t.new ≡ store_at t.old at r.now }
 {
-    let room = if at < t.len() { t.len() - at } else { 0 };
-    if r.len() <= room {
-        store_whole(t, at, r);
-    } else {
-        store_part(t, at, r, room);
+    if at < t.len() {
+        let room = t.len() - at;
+        if r.len() <= room {
+            t[at..at + r.len()].copy_from_slice(r);
+        } else {
+            store_part(&mut t[at..], r);
+        }
     }
 }
 
@@ -50,7 +34,7 @@ pub fn store(t: &mut [u8], at: usize, r: &[u8])
 pub fn flag(b: bool) -> u8
     ensures { result ≡ flag_of b }
 {
-    if b { 1 } else { 0 }
+    u8::from(b)
 }
 
 // A number with its sign as one without.
@@ -77,14 +61,14 @@ pub fn zag(n: u16) -> i16
 pub fn pair(hi: u8, lo: u8) -> u16
     ensures { result ≡ pair_of hi lo }
 {
-    256 * (hi as u16) + (lo as u16)
+    u16::from_be_bytes([hi, lo])
 }
 
 // The number that two numbers of two bytes say, high first.
 pub fn quad(hi: u16, lo: u16) -> u32
     ensures { result ≡ quad_of hi lo }
 {
-    65536 * (hi as u32) + (lo as u32)
+    65536 * u32::from(hi) + u32::from(lo)
 }
 
 // Byte at; 0 past the end.
@@ -128,9 +112,5 @@ pub fn four(t: &[u8], at: usize) -> u32
 pub fn clear(t: &mut [u8])
     ensures { t.new ≡ replicate (length t.old) 0 }
 {
-    let mut i: usize = 0;
-    while i < t.len() {
-        t[i] = 0;
-        i += 1;
-    }
+    t.fill(0);
 }

@@ -1,5 +1,5 @@
 -- 01, What the ledger keeps: the list, by what a ledger holds, and what it answers.
-use Rattle.std.specs.Prelude.{ℕ, ◌≤◌, not, ◌||◌, List, [], ◌∷◌, eqb, ltb, length}
+use Rattle.std.specs.Prelude.{ℕ, ◌≤◌, not, ◌||◌, List, [], ◌∷◌, eqb, ltb, length, Result, Ok, Err}
 use Rattle.std.proofs.Math.Option.{Option, none, some}
 use Rattle.bits.specs.Pick.{pick}
 use Rattle.bits.specs.Some.{any_of, first}
@@ -7,8 +7,7 @@ use Rattle.lookback.specs.Walk.{to_list, rows, nth_of}
 use Rattle.broadcast.specs.Issues.{is_ill, issues_refusal, issue_of}
 use Rattle.row.specs.Row.{row_held, answer_of}
 use Rattle.row.specs.declared.Row.{Row}
-use Rattle.list.specs.declared.rows.Count.{Count}
-use Rattle.list.specs.declared.rows.Count.TheVariants.{Rows, Refused}
+use Rattle.verdict.specs.declared.Refused.{Refused}
 
 -- the row of each slot, by what a ledger's bytes hold
 abbrev pub row_in : List ℕ → List ℕ → ℕ → Option Row
@@ -31,9 +30,9 @@ abbrev pub found_count : ℕ × Option Row → ℕ
 found_count a = length (to_list a.1)
 
 -- 01, Refusal numbers: the number and the value of each count; rows are 0 and how many, a refusal its number alone
-abbrev pub count_says : Count → ℕ × Option ℕ
-count_says (Rows n) = (0, some n)
-count_says (Refused n) = (n, none)
+abbrev pub count_says : Result ℕ Refused → ℕ × Option ℕ
+count_says (Ok n) = (0, some n)
+count_says (Err n) = (n.0, none)
 
 -- 01: the number of rows; 1 and 17
 unfoldable pub count_answer : List ℕ → List ℕ → ℕ × Option ℕ

@@ -16,7 +16,7 @@ use Rattle.broadcast.specs.Issues.{issues_refusal}
 use Rattle.row.specs.Row.{row_of, answer_of}
 use Rattle.list.specs.Rows.{row_in, list_in, count_says, count_answer, row_at_answer, row_of_slot_answer}
 use Rattle.row.specs.declared.Row.{Row}
-use Rattle.list.specs.declared.rows.Count.TheVariants as count
+use Rattle.std.specs.Prelude.{Ok}
 use Rattle.list.proofs.AnswerLaws.{count_right, at_right, slot_right}
 use Rattle.broadcast.proofs.IssueLaws.{issues_long}
 use Rattle.list_right.specs.InForce.{qualifies_after, row_after, row_in_force, list_in_force}
@@ -32,8 +32,8 @@ module _ (s : List ℕ) (prn : ℕ) (h : List (List ℕ)) (is : List ℕ) (H : H
   unfolding list_in_force
   list_held = rows_same (row_in s is) (row_in_force prn h is) row_held
 
-  pub count_held : issues_refusal is ≡ 0 → count_answer s is ≡ count_says (count.Rows (length (list_in_force prn h is)))
-  count_held e = count_right s is e ∙ ap (λ (l : List Row). count_says (count.Rows (length l))) list_held
+  pub count_held : issues_refusal is ≡ 0 → count_answer s is ≡ count_says (Ok (length (list_in_force prn h is)))
+  count_held e = count_right s is e ∙ ap (λ (l : List Row). count_says (Ok (length l))) list_held
 
   pub at_held : (n : ℕ) → issues_refusal is ≡ 0 → row_at_answer s is n ≡ answer_of 0 (nth_of (list_in_force prn h is) n)
   at_held n e = at_right s is n e ∙ ap (λ (l : List Row). answer_of 0 (nth_of l n)) list_held

@@ -1,104 +1,64 @@
 // What became of the logs: of their frames, and of the other records of mixed logs.
 use crate::accounts::Accounts;
+use table_form::TABLE_SIZE;
+use tally::TALLY_SIZE;
 
-// The accounts of the frames, the broadcast list, how often subframes 2 of B-CNAV1 and D1 subframes were taken (entry 0) and refused with each
-// number (entry n), and how many there were (entry 40); the lines that say something, and how many of them were bad. The state is 0 within a log, 1
-// at its end, and 2 where something could not be read or written, and it has been said what.
+// Something could not be read or written, and it has been said what.
 #[derive(Clone, Copy)]
+pub struct Failed;
+
+// How many subframes of a kind there were, and how many were taken (entry 0) and refused with each number (entry n).
+#[derive(Clone, Copy)]
+pub struct Counts {
+    pub all: u64,
+    pub times: [u64; 40],
+}
+
+impl Counts {
+    // Before the first subframe.
+    fn new() -> Counts {
+        Counts {
+            all: 0,
+            times: [0; 40],
+        }
+    }
+
+    // One more is counted, by its refusal, 0 for none.
+    pub(crate) fn add(&mut self, refusal: u8) {
+        let i = usize::from(refusal);
+        self.all = self.all.saturating_add(1);
+        if i < 40 {
+            self.times[i] = self.times[i].saturating_add(1);
+        }
+    }
+}
+
+// The table of the ledgers, the tally of the refused frames and the accounts of all, the broadcast list, what became of subframes 2 of B-CNAV1 and of
+// D1 subframes; the lines that say something, and how many of them were bad.
+#[derive(Drop)]
 pub struct Heard {
+    pub table: [u8; TABLE_SIZE],
+    pub tally: [u8; TALLY_SIZE],
     pub accounts: Accounts,
     pub issues: [u16; 255],
-    pub cnav1: [u64; 41],
-    pub d1: [u64; 41],
+    pub cnav1: Counts,
+    pub d1: Counts,
     pub lines: u64,
     pub bad: u64,
-    pub state: u8,
 }
 
-// Before the first log, over a broadcast list.
-pub fn begin(issues: [u16; 255], accounts: Accounts) -> Heard {
-    let none = [0u64; 41];
-    Heard {
-        accounts,
-        issues,
-        cnav1: none,
-        d1: none,
-        lines: 0,
-        bad: 0,
-        state: 1,
+impl Heard {
+    // Before the first log: no ledger, and no issues.
+    pub fn new() -> Heard {
+        Heard {
+            table: [0; TABLE_SIZE],
+            tally: [0; TALLY_SIZE],
+            accounts: Accounts::new(),
+            issues: [65535; 255],
+            cnav1: Counts::new(),
+            d1: Counts::new(),
+            lines: 0,
+            bad: 0,
+        }
     }
-}
-
-// After logs of frames alone.
-pub fn of_frames(issues: [u16; 255], accounts: Accounts, good: bool) -> Heard {
-    let mut r = begin(issues, accounts);
-    r.state = if good { 1 } else { 2 };
-    r
-}
-
-// One more, but for the largest number.
-fn one_more(n: u64) -> u64 {
-    if n < u64::MAX { n + 1 } else { n }
-}
-
-// One more of an entry is counted.
-fn raised(counts: [u64; 41], i: usize) -> [u64; 41] {
-    let mut c = counts;
-    if i < 41 {
-        c[i] = one_more(c[i]);
-    }
-    c
-}
-
-// One more is counted, by its refusal, 0 for none, and in all.
-fn counted(counts: [u64; 41], refusal: u8) -> [u64; 41] {
-    raised(raised(counts, refusal as usize), 40)
-}
-
-// After a frame.
-pub(crate) fn with_frame(h: Heard, accounts: Accounts, good: bool) -> Heard {
-    let mut r = h;
-    r.accounts = accounts;
-    r.state = if good { 0 } else { 2 };
-    r
-}
-
-// After a subframe 2 of B-CNAV1.
-pub(crate) fn with_cnav1(h: Heard, issues: [u16; 255], refusal: u8) -> Heard {
-    let before = h.cnav1;
-    let cnav1 = counted(before, refusal);
-    let mut r = h;
-    r.issues = issues;
-    r.cnav1 = cnav1;
-    r
-}
-
-// After a D1 subframe.
-pub(crate) fn with_d1(h: Heard, refusal: u8) -> Heard {
-    let before = h.d1;
-    let d1 = counted(before, refusal);
-    let mut r = h;
-    r.d1 = d1;
-    r
-}
-
-// One more line.
-pub(crate) fn with_line(h: Heard) -> Heard {
-    let mut r = h;
-    r.lines = one_more(h.lines);
-    r
-}
-
-// One more bad line.
-pub(crate) fn with_bad(h: Heard) -> Heard {
-    let mut r = h;
-    r.bad = one_more(h.bad);
-    r
-}
-
-// In another state.
-pub(crate) fn with_state(h: Heard, state: u8) -> Heard {
-    let mut r = h;
-    r.state = state;
-    r
 }

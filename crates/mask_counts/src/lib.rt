@@ -22,10 +22,8 @@ pub fn set_count(t: &[u8]) -> u16
     ensures { result ≡ set_count (bits_at t.now) }
 {
     let mut n: u32 = 0;
-    let mut k: usize = 0;
-    while k < 5 {
+    for k in 0..5 {
         n += ones_in_fifth(t, k);
-        k += 1;
     }
     n as u16
 }
@@ -34,15 +32,13 @@ pub fn set_count(t: &[u8]) -> u16
 pub fn is_past_last(t: &[u8], place: Place) -> bool
     ensures { result ≡ ltb (set_count (bits_at t.now)) place.0 }
 {
-    let sought = place.0 as u32;
+    let sought = u32::from(place.0);
     let mut n: u32 = 0;
-    let mut i: usize = 0;
-    while i < 5 {
+    for i in 0..5 {
         n += ones_in_fifth(t, i);
         if sought <= n {
             return false;
         }
-        i += 1;
     }
     n < sought
 }

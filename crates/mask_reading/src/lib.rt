@@ -7,13 +7,14 @@ ghost use Rattle.contents.specs.Parts.{mask_byte_at, mask_bytes_at, mask_part_at
 use contents::parts::{MaskPart, no_mask};
 use contents::read::layout_at;
 use layout::Layout;
+use std::array;
 
 // Byte j of the mask, from 0: the bits of eight slots; the last has those of seven, and a 0.
-fn mask_byte(s: &[u8], at: u32, j: u32) -> u8
+fn mask_byte(s: &[u8], at: u32, j: usize) -> u8
     requires { (at < 100000) × (j < 32) }
     ensures { result ≡ mask_byte_at s.now at j }
 {
-    let a = at as usize + 8 * (j as usize);
+    let a = at as usize + 8 * j;
     if j < 31 {
         return bits::get8(s, a, 8);
     }
@@ -25,13 +26,7 @@ fn read_mask_bytes(s: &[u8], at: u32) -> [u8; 32]
     requires { at < 100000 }
     ensures { result ≡ mask_bytes_at s.now at }
 {
-    let mut out = [0u8; 32];
-    let mut j: u32 = 0;
-    while j < 32 {
-        out[j as usize] = mask_byte(s, at, j);
-        j += 1;
-    }
-    out
+    array::from_fn(|j| mask_byte(s, at, j))
 }
 
 // The mask part from bit at on.

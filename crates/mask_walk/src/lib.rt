@@ -30,8 +30,7 @@ fn nth_by_bits(t: &[u8], from: usize, n: u16) -> Slot
     ensures { result.0 ≡ nth_from (drop from (bits_at t.now)) (from + 1) n }
 {
     let mut left = n;
-    let mut i = from;
-    while i < 255 {
+    for i in from..255 {
         if bits::bit(t, 32 + i) == 1 {
             if left == 1 {
                 return Slot((i + 1) as u8);
@@ -40,7 +39,6 @@ fn nth_by_bits(t: &[u8], from: usize, n: u16) -> Slot
                 left -= 1;
             }
         }
-        i += 1;
     }
     Slot(0)
 }
@@ -52,14 +50,14 @@ fn nth_from_byte(t: &[u8], first: usize, n: u16) -> Slot
     ensures { result.0 ≡ nth_from (drop (8 * first) (bits_at t.now)) (8 * first + 1) n }
 {
     let mut left = n;
-    let mut j = first;
-    let mut c = ones_in_byte(t, j);
-    while (j < 31) & (c < left) {
+    for j in first..31 {
+        let c = ones_in_byte(t, j);
+        if left <= c {
+            return nth_by_bits(t, 8 * j, left);
+        }
         left -= c;
-        j += 1;
-        c = ones_in_byte(t, j);
     }
-    nth_by_bits(t, 8 * j, left)
+    nth_by_bits(t, 8 * 31, left)
 }
 
 // The slot of the n-th set bit after slot `from`, counting from 1: in the rest of its byte, or from the next byte on.
@@ -78,10 +76,7 @@ fn nth_by_bytes(t: &[u8], from: usize, n: u16) -> Slot
 fn is_set(t: &[u8], i: usize) -> bool
     ensures { result ≡ get_or (bits_at t.now) i false }
 {
-    if i < 255 {
-        return bits::bit(t, 32 + i) == 1;
-    }
-    false
+    i < 255 && bits::bit(t, 32 + i) == 1
 }
 
 // The slot of the n-th set bit after slot `from`, counting from 1. Slot 0 where there is none. In the last byte, and in bytes that do not hold a mask, it
@@ -100,10 +95,7 @@ pub fn nth_after(t: &[u8], from: Slot, n: Place) -> Slot
     ensures { result.0 ≡ nth_from (drop from.0 (bits_at t.now)) (from.0 + 1) n.0 }
 {
     let i = from.0 as usize;
-    if n.0 != 1 {
-        return nth_far(t, i, n.0);
-    }
-    if is_set(t, i) {
+    if n.0 == 1 && is_set(t, i) {
         return Slot((i + 1) as u8);
     }
     nth_far(t, i, n.0)

@@ -1,5 +1,5 @@
 -- The answer of reading a message.
-use Rattle.std.specs.Prelude.{ℕ, not, List, [], ◌∷◌, eqb, length}
+use Rattle.std.specs.Prelude.{ℕ, not, List, [], ◌∷◌, eqb, length, Result, Ok, Err}
 use Rattle.bits.specs.Pick.{pick}
 use Rattle.bits.specs.Bits.{field_at}
 use Rattle.bits.specs.Some.{first}
@@ -8,16 +8,17 @@ use Rattle.contents.specs.Parts.{contents_at, no_contents}
 use Rattle.judge.specs.Judge.{refusal_at}
 use Rattle.contents.specs.declared.parts.Contents.{Contents}
 use Rattle.verdict.specs.Verdict.{says, refused_by}
-use Rattle.message.specs.declared.Reading.{Reading}
+use Rattle.verdict.specs.declared.Refusal.{Refusal}
 
 -- an answer: the number and the values of its verdict, and the contents beside it
 pub record Answer : Type 0 where
   pub said : List ℕ
   pub contents : Contents
 
--- 01, Refusal numbers: the answer that a reading is
-abbrev pub reading_says : Reading → Answer
-reading_says r = record { said = says r.verdict; contents = r.contents }
+-- 01, Refusal numbers: the answer that a reading is; a refusal has no contents
+abbrev pub reading_says : Result Contents Refusal → Answer
+reading_says (Ok c) = record { said = []; contents = c }
+reading_says (Err r) = record { said = says (Err r); contents = no_contents }
 
 -- 01: refused with n and nothing else; taken with its contents where n is 0
 unfoldable pub answer : ℕ → Contents → Answer

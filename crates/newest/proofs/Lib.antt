@@ -1,2 +1,3 @@
 mod NewestLaws
-pub mod TargetLaws
+pub mod RowLaws
+pub mod DigitLaws

@@ -2,7 +2,9 @@
 #![tactic(auto)]
 
 ghost use Rattle.std.specs.Prelude.{◌≡◌, eqb, get_or};
+ghost use Rattle.lent.specs.Held.{offset};
 ghost use Rattle.newest.specs.Newest.{is_newer, replaces, stamp_at};
+ghost use Rattle.newest.specs.Rows.{comes_to};
 
 // What decides of a record: the IOD SSR and the epoch of its part, and its IOD Corr.
 #[derive(Clone, Copy)]
@@ -10,6 +12,17 @@ pub struct Stamp {
     pub ssr: u8,
     pub corr: u8,
     pub epoch: u32,
+}
+
+// How the records of a kind are kept, one row for each slot: where the first begins, how long each is, and where in a row its epoch, IOD SSR and IOD Corr
+// stand.
+#[derive(Clone, Copy)]
+pub struct Rows {
+    pub first: u16,
+    pub size: u16,
+    pub epoch: usize,
+    pub ssr: usize,
+    pub corr: usize,
 }
 
 // Whether an epoch is not older than the one held: less than half a day ahead of it, over midnight too.
@@ -33,4 +46,28 @@ pub fn replaces_in(r: &[u8], epoch: usize, ssr: usize, corr: usize, new: Stamp) 
         return true;
     }
     is_newer(lent::four(r, epoch), new.epoch)
+}
+
+impl Rows {
+    // Where the row of a slot begins.
+    pub fn offset(self, slot: u8) -> usize
+        ensures { result ≡ offset self.size self.first slot }
+    {
+        usize::from(self.first) + usize::from(self.size) * usize::from(slot.saturating_sub(1))
+    }
+
+    // Whether a record replaces the one that is kept for a slot; slot 0 is none, and bytes that are not all there are no row.
+    pub fn replaces(self, t: &[u8], slot: u8, new: Stamp) -> bool
+        ensures { result ≡ comes_to t.now self slot new }
+    {
+        let at = self.offset(slot);
+        let end = at + usize::from(self.size);
+        if slot == 0 {
+            return false;
+        }
+        if t.len() < end {
+            return false;
+        }
+        replaces_in(&t[at..end], self.epoch, self.ssr, self.corr, new)
+    }
 }

@@ -2,14 +2,14 @@
 ghost use Rattle.io.specs.Counts.{IsPrefixLen};
 
 use console::put::{cursor_in, put_bytes};
-use log_files::accounts::{Accounts, nth};
+use log_files::accounts::Accounts;
 use log_files::heard::Heard;
 use report_lines::rows::{put_head, put_lines};
-use table_form::{ROOMS, TABLE_SIZE, ledger_for};
+use table_form::{ROOMS, ledger_for};
 
-// The PRN that lines name: of one PRN none, which is 0.
-pub(crate) fn named(count: u8, prn: u8) -> u8 {
-    if count == 1 { 0 } else { prn }
+// The PRN that lines name: of one PRN none.
+pub(crate) fn named(a: &Accounts, prn: u8) -> Option<u8> {
+    if a.count == 1 { None } else { Some(prn) }
 }
 
 // The head; of several PRNs with their column.
@@ -24,71 +24,35 @@ fn put_first(room: &mut [u8], at: usize, count: u8) -> usize
 }
 
 // The rows of PRN i, from 0, if there is one.
-fn put_nth(
-    room: &mut [u8],
-    at: usize,
-    i: usize,
-    table: &[u8; TABLE_SIZE],
-    issues: &[u16; 255],
-    a: Accounts,
-) -> usize
+fn put_nth(room: &mut [u8], at: usize, i: usize, heard: &Heard) -> usize
     ensures { IsPrefixLen result room.new }
 {
-    let p = nth(a, i);
-    if p.prn == 0 {
+    let Some(p) = heard.accounts.nth(i) else {
         return cursor_in(room, at);
-    }
-    let ledger = ledger_for(table, p.prn);
-    put_lines(room, at, b',', named(a.count, p.prn), ledger, issues)
+    };
+    let ledger = ledger_for(&heard.table, p.prn);
+    let prn = named(&heard.accounts, p.prn);
+    put_lines(room, at, b',', prn, ledger, &heard.issues)
 }
 
-// The rows of all PRNs, in the order given.
-fn put_rows(
-    room: &mut [u8],
-    at: usize,
-    table: &[u8; TABLE_SIZE],
-    issues: &[u16; 255],
-    a: Accounts,
-) -> usize
+// The table, with the rows of all PRNs in the order given.
+fn put_table(room: &mut [u8], at: usize, heard: &Heard) -> usize
     ensures { IsPrefixLen result room.new }
 {
-    let mut n = cursor_in(room, at);
-    let mut i: usize = 0;
-    while i < ROOMS {
-        n = put_nth(room, n, i, table, issues, a);
-        i += 1;
+    let mut n = put_first(room, at, heard.accounts.count);
+    for i in 0..ROOMS {
+        n = put_nth(room, n, i, heard);
     }
     n
 }
 
-// The table, with the rows of all PRNs in the order given.
-fn put_table(
-    room: &mut [u8],
-    at: usize,
-    table: &[u8; TABLE_SIZE],
-    issues: &[u16; 255],
-    a: Accounts,
-) -> usize
-    ensures { IsPrefixLen result room.new }
-{
-    let b = put_first(room, at, a.count);
-    put_rows(room, b, table, issues, a)
-}
-
 // The table, if it is asked for.
-pub(crate) fn put_csv(
-    room: &mut [u8],
-    at: usize,
-    table: &[u8; TABLE_SIZE],
-    heard: Heard,
-    asked: bool,
-) -> usize
+pub(crate) fn put_csv(room: &mut [u8], at: usize, heard: &Heard, asked: bool) -> usize
     ensures { IsPrefixLen result room.new }
 {
-    if !asked {
-        return cursor_in(room, at);
+    if asked {
+        put_table(room, at, heard)
+    } else {
+        cursor_in(room, at)
     }
-    let a = heard.accounts;
-    let issues = heard.issues;
-    put_table(room, at, table, &issues, a)
 }

@@ -2,26 +2,24 @@
 use crate::csv::named;
 use crate::fit::{Found, is_unfit, oldest, put_unfit};
 use crate::options::Options;
-use list::rows::Count;
-use log_files::accounts::{Account, nth};
+use log_files::accounts::Account;
 use log_files::heard::Heard;
 use report_lines::counts::refused_of;
-use table_form::{TABLE_SIZE, ledger_for};
+use table_form::{ROOMS, ledger_for};
 
 // How many rows there are.
 fn row_count(ledger: &[u8], issues: &[u16; 255]) -> u32 {
-    let a = list::rows::row_count(ledger, issues);
-    let Count::Rows(n) = a else {
-        return 0;
-    };
-    n as u32
+    match list::rows::row_count(ledger, issues) {
+        Ok(n) => u32::from(n),
+        Err(_) => 0,
+    }
 }
 
-// What the limits are held against, of the account of a PRN; the lines name a PRN that is not 0.
-pub(crate) fn found_in(a: Account, name: u8, ledger: &[u8], issues: &[u16; 255]) -> Found {
+// What the limits are held against, of the account of a PRN; the lines name a PRN, where they are told one.
+pub(crate) fn found_in(a: &Account, prn: Option<u8>, ledger: &[u8], issues: &[u16; 255]) -> Found {
     let e = a.epochs;
     Found {
-        prn: name,
+        prn,
         rows: row_count(ledger, issues),
         refused: refused_of(a.all, a.taken),
         all: a.all,
@@ -40,36 +38,25 @@ fn say_unfit(rt: &HostRuntime, f: Found, o: Options) {
     console::say::complain(rt, &said[..n]);
 }
 
-// The status of PRN i, from 0: 3 where there is one, and a limit does not hold for it.
-fn nth_status(
-    rt: &HostRuntime,
-    i: usize,
-    table: &[u8; TABLE_SIZE],
-    heard: Heard,
-    o: Options,
-) -> u8 {
-    let a = heard.accounts;
-    let p = nth(a, i);
-    if p.prn == 0 {
-        return 0;
-    }
-    let issues = heard.issues;
-    let ledger = ledger_for(table, p.prn);
-    let f = found_in(p, named(a.count, p.prn), ledger, &issues);
+// Whether there is a PRN i, from 0, and a limit does not hold for it.
+fn is_nth_unfit(rt: &HostRuntime, i: usize, heard: &Heard, o: Options) -> bool {
+    let Some(p) = heard.accounts.nth(i) else {
+        return false;
+    };
+    let ledger = ledger_for(&heard.table, p.prn);
+    let prn = named(&heard.accounts, p.prn);
+    let f = found_in(&p, prn, ledger, &heard.issues);
     say_unfit(rt, f, o);
-    if is_unfit(f, o) { 3 } else { 0 }
+    is_unfit(f, o)
 }
 
 // The status of a night that is written: 3 where a limit does not hold for a PRN.
-pub(crate) fn status_of(
-    rt: &HostRuntime,
-    table: &[u8; TABLE_SIZE],
-    heard: Heard,
-    o: Options,
-) -> u8 {
-    let a = nth_status(rt, 0, table, heard, o);
-    let b = nth_status(rt, 1, table, heard, o);
-    let c = nth_status(rt, 2, table, heard, o);
-    let d = nth_status(rt, 3, table, heard, o);
-    a | b | c | d
+pub(crate) fn status_of(rt: &HostRuntime, heard: &Heard, o: Options) -> u8 {
+    let mut status = 0;
+    for i in 0..ROOMS {
+        if is_nth_unfit(rt, i, heard, o) {
+            status = 3;
+        }
+    }
+    status
 }

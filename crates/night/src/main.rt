@@ -28,34 +28,24 @@ mod limits;
 mod options;
 mod report;
 
-use log_files::accounts::REFUSED;
 use log_files::command::{has_words, take_night};
 use log_files::frames::How;
 use log_files::heard::Heard;
 use options::Options;
-use table_form::TABLE_SIZE;
-use tally::TALLY_SIZE;
 
 // The room for all that is written: four reports of 174 rows and lines of some 70 bytes, and what stands before them.
 const ROOM: usize = 131072;
 
 // All that is written, in one piece. The answer is the status.
-fn write(
-    rt: &HostRuntime,
-    table: &[u8; TABLE_SIZE],
-    tally: &[u8; TALLY_SIZE],
-    refused: &[u64; REFUSED],
-    heard: Heard,
-    o: Options,
-) -> u8 {
+fn write(rt: &HostRuntime, heard: &Heard, o: Options) -> u8 {
     let mut room = [0u8; ROOM];
-    let a = before::put_before(&mut room, tally, heard, o);
-    let b = report::put_reports(&mut room, a, table, refused, heard, o);
-    let n = csv::put_csv(&mut room, b, table, heard, o.csv);
+    let a = before::put_before(&mut room, heard, o);
+    let b = report::put_reports(&mut room, a, heard, o);
+    let n = csv::put_csv(&mut room, b, heard, o.csv);
     if !console::out::write(rt, b"night", &room[..n]) {
         return 1;
     }
-    limits::status_of(rt, table, heard, o)
+    limits::status_of(rt, heard, o)
 }
 
 // The logs go through a table, with PRN as argument i of count; then it is written what became of them. The answer is the status.
@@ -66,23 +56,11 @@ fn run(rt: &HostRuntime, i: usize, count: usize, o: Options) -> u8 {
         each: o.each,
         quiet: o.quiet,
     };
-    let mut table = [0u8; TABLE_SIZE];
-    let mut tally = [0u8; TALLY_SIZE];
-    let mut refused = [0u64; REFUSED];
-    let heard = take_night(
-        rt,
-        b"night",
-        i,
-        count,
-        how,
-        &mut table,
-        &mut tally,
-        &mut refused,
-    );
-    if heard.state == 2 {
-        return 1;
+    let mut heard = Heard::new();
+    match take_night(rt, b"night", i, count, how, &mut heard) {
+        Ok(()) => write(rt, &heard, o),
+        Err(_) => 1,
     }
-    write(rt, &table, &tally, &refused, heard, o)
 }
 
 // How the program is called; the answer is the status.
@@ -96,15 +74,14 @@ fn say_usage(rt: &HostRuntime) -> u8 {
 
 // The program from its options on; the answer is the status.
 fn status_of(rt: &HostRuntime, first: usize, count: usize) -> u8 {
-    let o = options::options_from(rt, first, count);
-    if o.wrong {
+    let Ok((o, i)) = options::options_from(rt, first, count) else {
         return 2;
+    };
+    if has_words(i, count) {
+        run(rt, i, count, o)
+    } else {
+        say_usage(rt)
     }
-    let i = o.at;
-    if !has_words(i, count) {
-        return say_usage(rt);
-    }
-    run(rt, i, count, o)
 }
 
 fn main(rt: HostRuntime) {

@@ -8,14 +8,15 @@ use contents::parts::{OrbitPart, no_orbits};
 use contents::read::layout_at;
 use layout::{Layout, orbits_from};
 use records::orbit::{Orbit, blank_orbit, orbit_at};
+use std::array;
 
 // Orbit record i, from 0, of a row of them; blank past the count.
-fn nth_orbit(s: &[u8], at: u32, count: u8, i: u32) -> Orbit
+fn nth_orbit(s: &[u8], at: u32, count: u8, i: usize) -> Orbit
     requires { (at < 100000) × (i < 6) }
     ensures { result ≡ orbit_nth s.now at count i }
 {
-    if i < count as u32 {
-        orbit_at(s, at + 69 * i)
+    if i < count as usize {
+        orbit_at(s, at + 69 * i as u32)
     } else {
         blank_orbit()
     }
@@ -26,13 +27,7 @@ fn read_orbits(s: &[u8], at: u32, count: u8) -> [Orbit; 6]
     requires { at < 100000 }
     ensures { result ≡ orbits_at s.now at count }
 {
-    let mut out = [blank_orbit(); 6];
-    let mut i: u32 = 0;
-    while i < 6 {
-        out[i as usize] = nth_orbit(s, at, count, i);
-        i += 1;
-    }
-    out
+    array::from_fn(|i| nth_orbit(s, at, count, i))
 }
 
 // The orbit part from bit at on.

@@ -1,238 +1,150 @@
 // Clock and orbit records: numbers with strokes between them.
-ghost use Rattle.std.specs.Prelude.{◌≤◌, length};
-
-use crate::cursor::{byte_of, short_of};
-use console::words::{Number, Raw, number_of, raw_of, same};
+use console::words::{number_of, raw_of};
 use records::clock::{Clock, blank_clock};
 use records::orbit::{Orbit, blank_orbit};
 use ura::Ura;
 
-// A record and whether it was well formed.
-#[derive(Clone, Copy)]
-pub(crate) struct ClockWord {
-    pub good: bool,
-    pub clock: Clock,
+// A number as a byte; 255 stands for that and all above, which no field holds.
+pub(crate) fn byte_of(v: u32) -> u8 {
+    v.min(255) as u8
 }
 
-#[derive(Clone, Copy)]
-pub(crate) struct OrbitWord {
-    pub good: bool,
-    pub orbit: Orbit,
-}
-
-// A number of a record, where the next one begins, and whether all was well so far.
-#[derive(Clone, Copy)]
-pub(crate) struct Part {
-    pub at: usize,
-    pub good: bool,
-    pub whole: u32,
-    pub raw: i16,
-}
-
-// Before the first part.
-pub(crate) fn first() -> Part {
-    Part {
-        at: 0,
-        good: true,
-        whole: 0,
-        raw: 0,
-    }
-}
-
-// Something is wrong.
-fn wrong() -> Part {
-    Part {
-        at: 0,
-        good: false,
-        whole: 0,
-        raw: 0,
-    }
-}
-
-// The position of the next stroke from a position on, or the word's end.
-fn stroke(w: &[u8], at: usize) -> usize
-    requires { at ≤ length w.now }
-    ensures { (at ≤ result) × (result ≤ length w.now) }
-{
-    let mut i = at;
-    while i < w.len() {
-        if w[i] == b'/' {
-            return i;
-        }
-        i += 1;
-    }
-    i
-}
-
-// The next number, without a sign.
-pub(crate) fn whole_part(w: &[u8], p: Part) -> Part {
-    let at = p.at;
-    if !p.good {
-        return wrong();
-    }
-    if at >= w.len() {
-        return wrong();
-    }
-    let to = stroke(w, at);
-    let n = number_of(&w[at..to]);
-    let Number::Value(v) = n else {
-        return wrong();
-    };
-    Part {
-        at: after(w, to),
-        good: true,
-        whole: v,
-        raw: 0,
-    }
-}
-
-// The next number, with or without a minus sign.
-pub(crate) fn raw_part(w: &[u8], p: Part) -> Part {
-    let at = p.at;
-    if !p.good {
-        return wrong();
-    }
-    if at >= w.len() {
-        return wrong();
-    }
-    let to = stroke(w, at);
-    let n = raw_of(&w[at..to]);
-    let Raw::Value(v) = n else {
-        return wrong();
-    };
-    Part {
-        at: after(w, to),
-        good: true,
-        whole: 0,
-        raw: v,
-    }
-}
-
-// The position after a stroke; far past the end where the word has no stroke there.
-fn after(w: &[u8], to: usize) -> usize {
-    if to < w.len() { to + 1 } else { usize::MAX }
-}
-
-// Whether nothing is left of the word.
-pub(crate) fn is_done(p: Part) -> bool {
-    p.good & (p.at == usize::MAX)
+// A number of 16 bits; 65535 stands for that and all above, which no field holds.
+pub(crate) fn short_of(v: u32) -> u16 {
+    v.min(65535) as u16
 }
 
 // Whether a text may be a record: it begins with a digit or a minus sign.
 pub(crate) fn is_record(w: &[u8]) -> bool {
-    if w.len() == 0 {
-        return false;
+    !w.is_empty() && w[0] <= b'9'
+}
+
+// The slot that a text says, which is not 0.
+pub(crate) fn slot_of(w: &[u8]) -> Option<u16> {
+    match number_of(w)? {
+        0 => None,
+        slot => Some(short_of(slot)),
     }
-    w[0] < 58
+}
+
+// The parts of a record that are still to be read, with strokes between them; none after the last.
+#[derive(Clone, Copy)]
+pub(crate) struct Parts<'a> {
+    rest: Option<&'a [u8]>,
+}
+
+impl<'a> Parts<'a> {
+    // All parts of a record.
+    pub(crate) fn new(record: &'a [u8]) -> Parts<'a> {
+        Parts { rest: Some(record) }
+    }
+
+    // The next part.
+    pub(crate) fn next(&mut self) -> Option<&'a [u8]> {
+        let rest = self.rest?;
+        match rest.iter().position(|&b| b == b'/') {
+            Some(i) => {
+                self.rest = Some(&rest[i + 1..]);
+                Some(&rest[..i])
+            }
+            None => {
+                self.rest = None;
+                Some(rest)
+            }
+        }
+    }
+
+    // The next part, a slot that is not 0.
+    pub(crate) fn slot(&mut self) -> Option<u16> {
+        slot_of(self.next()?)
+    }
+
+    // The next part, a number as a byte.
+    pub(crate) fn byte(&mut self) -> Option<u8> {
+        Some(byte_of(number_of(self.next()?)?))
+    }
+
+    // The next part, a number of 16 bits.
+    fn short(&mut self) -> Option<u16> {
+        Some(short_of(number_of(self.next()?)?))
+    }
+
+    // The next part, a number with or without a minus sign.
+    pub(crate) fn raw(&mut self) -> Option<i16> {
+        raw_of(self.next()?)
+    }
+
+    // Whether nothing is left.
+    pub(crate) fn is_done(&self) -> bool {
+        self.rest.is_none()
+    }
+
+    // The clock of a slot, to the end.
+    fn clock(&mut self, slot: u16) -> Option<Clock> {
+        let corr = self.byte()?;
+        let c0 = self.raw()?;
+        self.is_done().then_some(Clock { slot, corr, c0 })
+    }
+
+    // Radial, along and cross.
+    fn place(&mut self) -> Option<(i16, i16, i16)> {
+        let radial = self.raw()?;
+        let along = self.raw()?;
+        let cross = self.raw()?;
+        Some((radial, along, cross))
+    }
+
+    // A URA, to the end.
+    fn ura(&mut self) -> Option<Ura> {
+        let ura = ura_of(self.next()?)?;
+        self.is_done().then_some(ura)
+    }
 }
 
 // A clock record without a slot.
-pub(crate) fn bare_clock(w: &[u8]) -> ClockWord {
-    let a = whole_part(w, first());
-    let b = raw_part(w, a);
-    let good = is_done(b);
-    let clock = Clock {
-        slot: 0,
-        corr: byte_of(a.whole),
-        c0: b.raw,
-    };
-    ClockWord { good, clock }
+pub(crate) fn bare_clock(w: &[u8]) -> Option<Clock> {
+    Parts::new(w).clock(0)
 }
 
 // A clock record with its slot, or a blank one.
-pub(crate) fn slot_clock(w: &[u8]) -> ClockWord {
-    if same(w, b"-") {
-        let clock = blank_clock();
-        return ClockWord { good: true, clock };
+pub(crate) fn slot_clock(w: &[u8]) -> Option<Clock> {
+    if w == b"-".as_slice() {
+        return Some(blank_clock());
     }
-    let a = whole_part(w, first());
-    let b = whole_part(w, a);
-    let c = raw_part(w, b);
-    let good = is_done(c) & (a.whole > 0);
-    let clock = Clock {
-        slot: short_of(a.whole),
-        corr: byte_of(b.whole),
-        c0: c.raw,
-    };
-    ClockWord { good, clock }
-}
-
-// A URA and whether it was well formed.
-#[derive(Clone, Copy)]
-pub(crate) struct UraWord {
-    pub good: bool,
-    pub ura: Ura,
+    let mut parts = Parts::new(w);
+    let slot = parts.slot()?;
+    parts.clock(slot)
 }
 
 // The URA that a text says.
-pub(crate) fn ura_of(t: &[u8]) -> UraWord {
-    if same(t, b"unknown") {
-        return UraWord {
-            good: true,
-            ura: Ura::Unknown,
-        };
+pub(crate) fn ura_of(w: &[u8]) -> Option<Ura> {
+    if w == b"unknown".as_slice() {
+        return Some(Ura::Unknown);
     }
-    if same(t, b"above") {
-        return UraWord {
-            good: true,
-            ura: Ura::Above,
-        };
+    if w == b"above".as_slice() {
+        return Some(Ura::Above);
     }
-    let n = number_of(t);
-    let Number::Value(q) = n else {
-        return UraWord {
-            good: false,
-            ura: Ura::Unknown,
-        };
-    };
-    UraWord {
-        good: true,
-        ura: Ura::Quarters(q),
-    }
-}
-
-// The URA that the rest of a word says.
-fn last_ura(w: &[u8], p: Part) -> UraWord {
-    let at = p.at;
-    if p.good {
-        if at < w.len() {
-            return ura_of(&w[at..]);
-        }
-    }
-    UraWord {
-        good: false,
-        ura: Ura::Unknown,
-    }
-}
-
-// The raw values and the URA of an orbit record, after its slot, IODN and IOD Corr.
-fn orbit_from(w: &[u8], p: Part, slot: u32, iodn: u32, corr: u32) -> OrbitWord {
-    let a = raw_part(w, p);
-    let b = raw_part(w, a);
-    let c = raw_part(w, b);
-    let u = last_ura(w, c);
-    let ura = u.ura;
-    let good = u.good & (slot > 0);
-    let orbit = Orbit {
-        slot: short_of(slot),
-        iodn: short_of(iodn),
-        corr: byte_of(corr),
-        radial: a.raw,
-        along: b.raw,
-        cross: c.raw,
-        ura,
-    };
-    OrbitWord { good, orbit }
+    Some(Ura::Quarters(number_of(w)?))
 }
 
 // An orbit record, or a blank one.
-pub(crate) fn orbit(w: &[u8]) -> OrbitWord {
-    if same(w, b"-") {
-        let orbit = blank_orbit();
-        return OrbitWord { good: true, orbit };
+pub(crate) fn orbit(w: &[u8]) -> Option<Orbit> {
+    if w == b"-".as_slice() {
+        return Some(blank_orbit());
     }
-    let a = whole_part(w, first());
-    let b = whole_part(w, a);
-    let c = whole_part(w, b);
-    orbit_from(w, c, a.whole, b.whole, c.whole)
+    let mut parts = Parts::new(w);
+    let slot = parts.slot()?;
+    let iodn = parts.short()?;
+    let corr = parts.byte()?;
+    let (radial, along, cross) = parts.place()?;
+    let ura = parts.ura()?;
+    Some(Orbit {
+        slot,
+        iodn,
+        corr,
+        radial,
+        along,
+        cross,
+        ura,
+    })
 }

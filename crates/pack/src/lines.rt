@@ -1,150 +1,99 @@
 // The line of a message or a frame: its PRN and contents, or where and what was expected.
-use crate::cursor::{Cursor, EPOCH, Got, PRN, SSR, TYPE, byte_of, end, field, start};
-use crate::late::{bias_part, code_part};
-use crate::parts::{clock_part, mask_part, maybe_clocks, maybe_orbits, orbit_part};
-use biases::no_biases;
-use contents::parts::{ClockPart, Contents, MaskPart, OrbitPart, no_clocks, no_mask, no_orbits};
-use ura_codes::no_codes;
+use crate::parts::{
+    bias_part, clock_part, code_part, first_clocks, mask_part, maybe_orbits, orbit_part,
+    slotted_clocks,
+};
+use crate::reader::{Fault, Reader};
+use contents::parts::{Contents, no_contents};
 
-// A line that was read.
-#[derive(Clone, Copy)]
-pub(crate) struct Line {
-    pub cursor: Cursor,
-    pub contents: Contents,
-}
-
-// Contents of a mask, clocks and orbits, with no other part.
-fn plain(kind: u8, mask: MaskPart, clock: ClockPart, orbit: OrbitPart) -> Contents {
-    let bias = no_biases();
-    let code = no_codes();
-    Contents {
-        kind,
+// The contents of type 1.
+fn mask(r: &mut Reader) -> Result<Contents, Fault> {
+    let mask = mask_part(r)?;
+    Ok(Contents {
+        kind: 1,
         mask,
-        clock,
+        ..no_contents()
+    })
+}
+
+// The contents of type 2.
+fn orbits(r: &mut Reader) -> Result<Contents, Fault> {
+    let orbit = orbit_part(r, b"epoch", b"ssr", 6, 6)?;
+    Ok(Contents {
+        kind: 2,
         orbit,
-        bias,
-        code,
-    }
+        ..no_contents()
+    })
 }
 
-// The parts of type 1.
-fn line1(s: &[u8], p: Cursor) -> Line {
-    let m = mask_part(s, p);
-    let cursor = m.cursor;
-    let mask = m.part;
-    let contents = plain(1, mask, no_clocks(), no_orbits());
-    Line { cursor, contents }
-}
-
-// The parts of type 2.
-fn line2(s: &[u8], p: Cursor) -> Line {
-    let o = orbit_part(s, p, EPOCH, SSR, 6, 6);
-    let cursor = o.cursor;
-    let orbit = o.part;
-    let contents = plain(2, no_mask(), no_clocks(), orbit);
-    Line { cursor, contents }
-}
-
-// The parts of type 3.
-fn line3(s: &[u8], p: Cursor) -> Line {
-    let b = bias_part(s, p);
-    let cursor = b.cursor;
-    let bias = b.part;
-    let mask = no_mask();
-    let clock = no_clocks();
-    let orbit = no_orbits();
-    let code = no_codes();
-    let contents = Contents {
+// The contents of type 3.
+fn biases(r: &mut Reader) -> Result<Contents, Fault> {
+    let bias = bias_part(r)?;
+    Ok(Contents {
         kind: 3,
-        mask,
-        clock,
-        orbit,
         bias,
-        code,
-    };
-    Line { cursor, contents }
+        ..no_contents()
+    })
 }
 
-// The parts of type 4.
-fn line4(s: &[u8], p: Cursor) -> Line {
-    let k = clock_part(s, p);
-    let cursor = k.cursor;
-    let clock = k.part;
-    let contents = plain(4, no_mask(), clock, no_orbits());
-    Line { cursor, contents }
+// The contents of type 4.
+fn clocks(r: &mut Reader) -> Result<Contents, Fault> {
+    let clock = clock_part(r, b"epoch", b"ssr", b"sub", 23, 23)?;
+    Ok(Contents {
+        kind: 4,
+        clock,
+        ..no_contents()
+    })
 }
 
-// The parts of type 5.
-fn line5(s: &[u8], p: Cursor) -> Line {
-    let u = code_part(s, p);
-    let cursor = u.cursor;
-    let code = u.part;
-    let mask = no_mask();
-    let clock = no_clocks();
-    let orbit = no_orbits();
-    let bias = no_biases();
-    let contents = Contents {
+// The contents of type 5.
+fn codes(r: &mut Reader) -> Result<Contents, Fault> {
+    let code = code_part(r)?;
+    Ok(Contents {
         kind: 5,
-        mask,
+        code,
+        ..no_contents()
+    })
+}
+
+// The contents of types 6 and 7.
+fn clocks_and_orbits(r: &mut Reader, kind: u8) -> Result<Contents, Fault> {
+    let clock = if kind == 6 {
+        first_clocks(r)?
+    } else {
+        slotted_clocks(r)?
+    };
+    let orbit = maybe_orbits(r)?;
+    Ok(Contents {
+        kind,
         clock,
         orbit,
-        bias,
-        code,
-    };
-    Line { cursor, contents }
+        ..no_contents()
+    })
 }
 
-// The parts of types 6 and 7.
-fn line67(s: &[u8], p: Cursor, kind: u8) -> Line {
-    let k = maybe_clocks(s, p, kind == 7);
-    let pk = k.cursor;
-    let o = maybe_orbits(s, pk);
-    let cursor = o.cursor;
-    let clock = k.part;
-    let orbit = o.part;
-    let contents = plain(kind, no_mask(), clock, orbit);
-    Line { cursor, contents }
-}
-
-// A type with no parts, or one that is not written.
-fn bare(cursor: Cursor, kind: u8) -> Line {
-    let contents = plain(kind, no_mask(), no_clocks(), no_orbits());
-    Line { cursor, contents }
-}
-
-// The parts of a type.
-fn parts(s: &[u8], p: Cursor, kind: u8) -> Line {
+// The contents of a type; no part of one that is not written.
+fn contents_of(r: &mut Reader, kind: u8) -> Result<Contents, Fault> {
     match kind {
-        1 => line1(s, p),
-        2 => line2(s, p),
-        3 => line3(s, p),
-        4 => line4(s, p),
-        5 => line5(s, p),
-        6 => line67(s, p, 6),
-        7 => line67(s, p, 7),
-        _ => bare(p, kind),
+        1 => mask(r),
+        2 => orbits(r),
+        3 => biases(r),
+        4 => clocks(r),
+        5 => codes(r),
+        6 | 7 => clocks_and_orbits(r, kind),
+        _ => Ok(Contents {
+            kind,
+            ..no_contents()
+        }),
     }
 }
 
-// The PRN that the line of a frame begins with; the line of a message has none.
-pub(crate) fn read_prn(s: &[u8], frames: bool) -> Got {
-    if frames {
-        return field(s, start(), PRN);
-    }
-    let cursor = start();
-    Got { cursor, value: 0 }
-}
-
-// The message of a line, from a cursor to the line's end.
-pub(crate) fn read_message(s: &[u8], from: Cursor) -> Line {
-    let t = field(s, from, TYPE);
-    let p = t.cursor;
-    if p.fault != 0 {
-        return bare(p, 0);
-    }
-    let l = parts(s, p, byte_of(t.value));
-    let q = l.cursor;
-    let contents = l.contents;
-    let cursor = end(s, q);
-    Line { cursor, contents }
+// The line of a message, or of a frame, which begins with its PRN.
+pub(crate) fn read_line(s: &[u8], frames: bool) -> Result<(u8, Contents), Fault> {
+    let mut r = Reader::new(s);
+    let prn = if frames { r.byte(b"prn")? } else { 0 };
+    let kind = r.byte(b"type")?;
+    let contents = contents_of(&mut r, kind)?;
+    r.end()?;
+    Ok((prn, contents))
 }

@@ -6,35 +6,29 @@
 // All of a file is written or nothing. What cannot be read twice is written as it is read, up to the first faulty line.
 #![tactic(auto)]
 
-mod clocks;
-mod codes;
-mod cursor;
 mod faults;
 mod fields;
-mod late;
 mod lines;
-mod orbits;
+mod lists;
 mod packing;
 mod parts;
-mod sats;
-mod slots;
+mod reader;
 
 ghost use Rattle.console.specs.Lines.{Inside};
 
 use console::args::{Args, own, own_count, own_is};
 use console::input::{Input, open, standard};
 use console::lines::{Lines, Step, next_line};
-use console::turns::{ENDED, NOTHING, Pass, WRONG, counted, rewinds, status_of};
+use console::turns::{Pass, Turn, rewinds};
 
 // A step of the reading.
-fn turn(rt: &HostRuntime, name: &[u8], room: &[u8], l: Lines, p: Pass, frames: bool) -> u8
+fn turn(rt: &HostRuntime, name: &[u8], room: &[u8], l: Lines, p: Pass, frames: bool) -> Turn
     requires { Inside l room.now }
 {
     let a = l.start;
     let b = l.end;
-    let step = l.step;
-    match step {
-        Step::End => ENDED,
+    match l.step {
+        Step::End => Turn::Ended,
         Step::Failed(e) => faults::say_unread(rt, name, p, frames, e),
         Step::Long => faults::say_line(rt, name, p, frames, b"longer than 65536 bytes"),
         Step::Line => packing::pack_line(rt, name, p, frames, &room[a..b]),
@@ -49,24 +43,24 @@ fn pack_all(
     room: &mut [u8],
     frames: bool,
     writes: bool,
-) -> u8 {
+) -> Turn {
     let mut l = console::lines::begin();
-    let mut state = NOTHING;
+    let mut last = Turn::Nothing;
     let mut written: u64 = 0;
-    let mut left = u64::MAX;
-    while left > 0 && state < ENDED {
-        let next = next_line(input, room, l);
-        l = next;
+    for _ in 0..u64::MAX {
+        l = next_line(input, room, l);
         let p = Pass {
             writes,
-            number: next.number,
+            number: l.number,
             written,
         };
-        state = turn(rt, name, room, next, p, frames);
-        written = counted(written, state);
-        left -= 1;
+        last = turn(rt, name, room, l, p, frames);
+        if !last.goes_on() {
+            break;
+        }
+        written = last.counted(written);
     }
-    state
+    last
 }
 
 // All lines of a file, twice: nothing is written where one is faulty.
@@ -76,12 +70,12 @@ fn pack_twice(
     name: &[u8],
     room: &mut [u8],
     frames: bool,
-) -> u8 {
-    if pack_all(rt, input, name, room, frames, false) == WRONG {
-        return WRONG;
+) -> Turn {
+    if pack_all(rt, input, name, room, frames, false) == Turn::Wrong {
+        return Turn::Wrong;
     }
     if !console::turns::rewound(rt, b"pack", name, input) {
-        return WRONG;
+        return Turn::Wrong;
     }
     pack_all(rt, input, name, room, frames, true)
 }
@@ -89,15 +83,17 @@ fn pack_twice(
 // An input: a file is passed over twice, what cannot be rewound once.
 fn pack_input(rt: &HostRuntime, input: &mut Input, name: &[u8], frames: bool, once: bool) -> u8 {
     let mut room = console::lines::line_room();
-    if once {
-        return status_of(pack_all(rt, input, name, &mut room, frames, true));
-    }
-    status_of(pack_twice(rt, input, name, &mut room, frames))
+    let last = if once {
+        pack_all(rt, input, name, &mut room, frames, true)
+    } else {
+        pack_twice(rt, input, name, &mut room, frames)
+    };
+    last.status()
 }
 
 // The file of a name; - is standard input.
 fn pack_file(rt: &HostRuntime, name: &[u8], frames: bool) -> u8 {
-    if console::words::same(name, b"-") {
+    if name == b"-".as_slice() {
         return pack_input(rt, &mut standard(rt), b"standard input", frames, true);
     }
     match open(rt, name) {
@@ -139,7 +135,7 @@ fn run(rt: &HostRuntime, a: Args) -> u8 {
     if count == 1 {
         return pack_arg(rt, a, 0, false);
     }
-    if (count == 2) & own_is(rt, a, 0, b"-f") {
+    if count == 2 && own_is(rt, a, 0, b"-f") {
         return pack_arg(rt, a, 1, true);
     }
     usage(rt)

@@ -1,25 +1,29 @@
 // A line becomes a message or a frame on standard output.
-use crate::cursor::byte_of;
 use crate::faults::{say_malformed, say_refused};
-use crate::lines::{read_message, read_prn};
-use console::turns::{NOTHING, Pass, WRITTEN, WRONG};
+use crate::lines::read_line;
+use console::turns::{Pass, Turn};
 use contents::parts::Contents;
 use verdict::number_of;
 
 // A message or a frame goes to standard output, in a pass that writes.
-fn write_bytes(rt: &HostRuntime, p: Pass, bytes: &[u8]) -> u8 {
-    if !p.writes {
-        return WRITTEN;
+fn write_bytes(rt: &HostRuntime, p: Pass, bytes: &[u8]) -> Turn {
+    if !p.writes || console::out::write(rt, b"pack", bytes) {
+        Turn::Written
+    } else {
+        Turn::Wrong
     }
-    if console::out::write(rt, b"pack", bytes) {
-        return WRITTEN;
-    }
-    WRONG
 }
 
 // The frame of a message, with all flags 0, is written, or refused. Contents that were refused (8 and above) have left a message of zeros, for which
 // a frame can be made: so a PRN that is refused (4) comes first, and the lowest number is given.
-fn write_frame(rt: &HostRuntime, name: &[u8], p: Pass, message: &[u8], prn: u8, refused: u8) -> u8 {
+fn write_frame(
+    rt: &HostRuntime,
+    name: &[u8],
+    p: Pass,
+    message: &[u8],
+    prn: u8,
+    refused: u8,
+) -> Turn {
     let mut room = [0u8; 125];
     let v = making::make(message, prn, 0, &mut room);
     let made = number_of(v);
@@ -38,7 +42,7 @@ fn write_contents(
     frames: bool,
     prn: u8,
     c: Contents,
-) -> u8 {
+) -> Turn {
     let mut room = [0u8; 61];
     let v = writing::write(&mut room, c);
     let n = number_of(v);
@@ -52,28 +56,23 @@ fn write_contents(
 }
 
 // A line that is neither blank nor a comment.
-fn pack_message(rt: &HostRuntime, name: &[u8], p: Pass, frames: bool, s: &[u8]) -> u8 {
-    let g = read_prn(s, frames);
-    let from = g.cursor;
-    let l = read_message(s, from);
-    let c = l.cursor;
-    if c.fault != 0 {
-        return say_malformed(rt, name, p, frames, s, c);
+fn pack_message(rt: &HostRuntime, name: &[u8], p: Pass, frames: bool, s: &[u8]) -> Turn {
+    match read_line(s, frames) {
+        Ok((prn, contents)) => write_contents(rt, name, p, frames, prn, contents),
+        Err(fault) => say_malformed(rt, name, p, frames, s, fault),
     }
-    let contents = l.contents;
-    write_contents(rt, name, p, frames, byte_of(g.value), contents)
 }
 
 // A line without a byte order mark.
-fn pack_text(rt: &HostRuntime, name: &[u8], p: Pass, frames: bool, s: &[u8]) -> u8 {
+fn pack_text(rt: &HostRuntime, name: &[u8], p: Pass, frames: bool, s: &[u8]) -> Turn {
     if console::words::is_remark(s) {
-        return NOTHING;
+        return Turn::Nothing;
     }
     pack_message(rt, name, p, frames, s)
 }
 
 // A line.
-pub(crate) fn pack_line(rt: &HostRuntime, name: &[u8], p: Pass, frames: bool, s: &[u8]) -> u8 {
+pub(crate) fn pack_line(rt: &HostRuntime, name: &[u8], p: Pass, frames: bool, s: &[u8]) -> Turn {
     let a = console::words::text_start(s, p.number);
     pack_text(rt, name, p, frames, &s[a..])
 }

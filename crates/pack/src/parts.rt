@@ -1,171 +1,164 @@
-// The mask, clock and orbit parts of a line.
-use crate::clocks::clock_list;
-use crate::cursor::{
-    CLOCK_EPOCH, CLOCK_SSR, Cursor, EPOCH, FROM, IODP, ORBIT_EPOCH, ORBIT_SSR, SLOTS, SSR, SUB,
-    byte_of, field, key, next_is, short_of,
-};
-use crate::orbits::orbit_list;
-use crate::slots::read_slots;
+// The parts of a line.
+use crate::fields::{bare_clock, orbit, slot_clock};
+use crate::lists::{List, codes, records, sats, slots};
+use crate::reader::{CLOCK, Fault, ORBIT, Reader, SLOT_CLOCK};
+use biases::BiasPart;
 use contents::parts::{ClockPart, MaskPart, OrbitPart, no_clocks, no_orbits};
+use records::clock::{Clock, blank_clock};
+use records::orbit::{Orbit, blank_orbit};
+use ura_codes::CodePart;
 
-// A part, and the cursor after it.
-#[derive(Clone, Copy)]
-pub(crate) struct MaskLine {
-    pub cursor: Cursor,
-    pub part: MaskPart,
-}
-
-#[derive(Clone, Copy)]
-pub(crate) struct ClockLine {
-    pub cursor: Cursor,
-    pub part: ClockPart,
-}
-
-#[derive(Clone, Copy)]
-pub(crate) struct OrbitLine {
-    pub cursor: Cursor,
-    pub part: OrbitPart,
+// Epoch and IOD SSR, after their keys.
+fn epoch_and_ssr(
+    r: &mut Reader,
+    epoch: &'static [u8],
+    ssr: &'static [u8],
+) -> Result<(u32, u8), Fault> {
+    let epoch = r.field(epoch)?;
+    let ssr = r.byte(ssr)?;
+    Ok((epoch, ssr))
 }
 
 // The mask part of type 1.
-pub(crate) fn mask_part(s: &[u8], p: Cursor) -> MaskLine {
-    let a = field(s, p, EPOCH);
-    let pa = a.cursor;
-    let b = field(s, pa, SSR);
-    let pb = b.cursor;
-    let c = field(s, pb, IODP);
-    let pc = c.cursor;
-    let d = read_slots(s, key(s, pc, SLOTS));
-    let bytes = d.bytes;
-    let cursor = d.cursor;
-    let part = MaskPart {
-        epoch: a.value,
-        ssr: byte_of(b.value),
-        iodp: byte_of(c.value),
+pub(crate) fn mask_part(r: &mut Reader) -> Result<MaskPart, Fault> {
+    let (epoch, ssr) = epoch_and_ssr(r, b"epoch", b"ssr")?;
+    let iodp = r.byte(b"iodp")?;
+    let bytes = slots(r)?;
+    Ok(MaskPart {
+        epoch,
+        ssr,
+        iodp,
         bytes,
-    };
-    MaskLine { cursor, part }
+    })
 }
 
-// IODP and the sub-type or the first place.
-#[derive(Clone, Copy)]
-struct Which {
-    cursor: Cursor,
-    iodp: u8,
-    start: u16,
+// The bias part of type 3.
+pub(crate) fn bias_part(r: &mut Reader) -> Result<BiasPart, Fault> {
+    let (epoch, ssr) = epoch_and_ssr(r, b"epoch", b"ssr")?;
+    let (List { count, records }, biases) = sats(r)?;
+    Ok(BiasPart {
+        epoch,
+        ssr,
+        count,
+        sats: records,
+        biases,
+    })
 }
 
 // IODP, and the sub-type or the first place after its key.
-fn read_which(s: &[u8], p: Cursor, k: u8) -> Which {
-    let a = field(s, p, IODP);
-    let pa = a.cursor;
-    let b = field(s, pa, k);
-    let cursor = b.cursor;
-    Which {
-        cursor,
-        iodp: byte_of(a.value),
-        start: short_of(b.value),
-    }
+fn iodp_and_start(r: &mut Reader, start: &'static [u8]) -> Result<(u8, u16), Fault> {
+    let iodp = r.byte(b"iodp")?;
+    let start = r.short(start)?;
+    Ok((iodp, start))
 }
 
-// Neither IODP nor a first place, as in type 7.
-fn which_none(cursor: Cursor) -> Which {
-    Which {
-        cursor,
-        iodp: 0,
-        start: 0,
-    }
+// Clocks without slots, after their key: so many at least and at most.
+fn bare_clocks(r: &mut Reader, least: u8, most: u8) -> Result<List<Clock, 23>, Fault> {
+    r.key(b"clocks")?;
+    records(r, least, most, blank_clock(), CLOCK, bare_clock)
 }
 
-// The clock part of type 4.
-pub(crate) fn clock_part(s: &[u8], p: Cursor) -> ClockLine {
-    let a = field(s, p, EPOCH);
-    let pa = a.cursor;
-    let b = field(s, pa, SSR);
-    let pb = b.cursor;
-    let w = read_which(s, pb, SUB);
-    let pw = w.cursor;
-    let c = clock_list(s, pw, false, 23, 23);
-    let cursor = c.cursor;
-    let clocks = c.clocks;
-    let part = ClockPart {
-        epoch: a.value,
-        ssr: byte_of(b.value),
-        iodp: w.iodp,
-        start: w.start,
-        count: c.count,
-        clocks,
-    };
-    ClockLine { cursor, part }
+// Clocks with their slots, after their key.
+fn slot_clocks(r: &mut Reader) -> Result<List<Clock, 23>, Fault> {
+    r.key(b"clocks")?;
+    records(r, 1, 255, blank_clock(), SLOT_CLOCK, slot_clock)
 }
 
-// The clock part of types 6 and 7.
-fn first_part(s: &[u8], p: Cursor, slotted: bool) -> ClockLine {
-    let a = field(s, p, CLOCK_EPOCH);
-    let pa = a.cursor;
-    let b = field(s, pa, CLOCK_SSR);
-    let pb = b.cursor;
-    let w = if slotted {
-        which_none(pb)
-    } else {
-        read_which(s, pb, FROM)
-    };
-    let pw = w.cursor;
-    let c = clock_list(s, pw, slotted, 1, 255);
-    let cursor = c.cursor;
-    let clocks = c.clocks;
-    let part = ClockPart {
-        epoch: a.value,
-        ssr: byte_of(b.value),
-        iodp: w.iodp,
-        start: w.start,
-        count: c.count,
-        clocks,
-    };
-    ClockLine { cursor, part }
+// The clock part of types 4 and 6: its keys for epoch, IOD SSR and the sub-type or the first place, then so many records at least and at most.
+pub(crate) fn clock_part(
+    r: &mut Reader,
+    epoch: &'static [u8],
+    ssr: &'static [u8],
+    start: &'static [u8],
+    least: u8,
+    most: u8,
+) -> Result<ClockPart, Fault> {
+    let (epoch, ssr) = epoch_and_ssr(r, epoch, ssr)?;
+    let (iodp, start) = iodp_and_start(r, start)?;
+    let List { count, records } = bare_clocks(r, least, most)?;
+    Ok(ClockPart {
+        epoch,
+        ssr,
+        iodp,
+        start,
+        count,
+        clocks: records,
+    })
+}
+
+// The code part of type 5.
+pub(crate) fn code_part(r: &mut Reader) -> Result<CodePart, Fault> {
+    let (epoch, ssr) = epoch_and_ssr(r, b"epoch", b"ssr")?;
+    let iodp = r.byte(b"iodp")?;
+    let sub = r.byte(b"sub")?;
+    let codes = codes(r)?;
+    Ok(CodePart {
+        epoch,
+        ssr,
+        iodp,
+        sub,
+        codes,
+    })
+}
+
+// Orbits, after their key: so many at least and at most.
+fn orbits(r: &mut Reader, least: u8, most: u8) -> Result<List<Orbit, 6>, Fault> {
+    r.key(b"orbits")?;
+    records(r, least, most, blank_orbit(), ORBIT, orbit)
 }
 
 // The orbit part: its keys for epoch and IOD SSR, then so many records at least and at most.
 pub(crate) fn orbit_part(
-    s: &[u8],
-    p: Cursor,
-    epoch: u8,
-    ssr: u8,
+    r: &mut Reader,
+    epoch: &'static [u8],
+    ssr: &'static [u8],
     least: u8,
     most: u8,
-) -> OrbitLine {
-    let a = field(s, p, epoch);
-    let pa = a.cursor;
-    let b = field(s, pa, ssr);
-    let pb = b.cursor;
-    let o = orbit_list(s, pb, least, most);
-    let cursor = o.cursor;
-    let orbits = o.orbits;
-    let part = OrbitPart {
-        epoch: a.value,
-        ssr: byte_of(b.value),
-        count: o.count,
-        orbits,
-    };
-    OrbitLine { cursor, part }
+) -> Result<OrbitPart, Fault> {
+    let (epoch, ssr) = epoch_and_ssr(r, epoch, ssr)?;
+    let List { count, records } = orbits(r, least, most)?;
+    Ok(OrbitPart {
+        epoch,
+        ssr,
+        count,
+        orbits: records,
+    })
 }
 
-// The clock part of types 6 and 7, if there is one.
-pub(crate) fn maybe_clocks(s: &[u8], p: Cursor, slotted: bool) -> ClockLine {
-    if next_is(s, p, CLOCK_EPOCH) {
-        return first_part(s, p, slotted);
+// The clock part of type 6, if there is one.
+pub(crate) fn first_clocks(r: &mut Reader) -> Result<ClockPart, Fault> {
+    if r.next() != b"clock-epoch".as_slice() {
+        return Ok(no_clocks());
     }
-    let part = no_clocks();
-    ClockLine { cursor: p, part }
+    clock_part(r, b"clock-epoch", b"clock-ssr", b"from", 1, 255)
+}
+
+// Epoch, IOD SSR and clocks of a type 7: each record has its slot, and there is neither IODP nor a first place.
+fn slotted_part(r: &mut Reader) -> Result<ClockPart, Fault> {
+    let (epoch, ssr) = epoch_and_ssr(r, b"clock-epoch", b"clock-ssr")?;
+    let List { count, records } = slot_clocks(r)?;
+    Ok(ClockPart {
+        epoch,
+        ssr,
+        iodp: 0,
+        start: 0,
+        count,
+        clocks: records,
+    })
+}
+
+// The clock part of type 7, if there is one.
+pub(crate) fn slotted_clocks(r: &mut Reader) -> Result<ClockPart, Fault> {
+    if r.next() != b"clock-epoch".as_slice() {
+        return Ok(no_clocks());
+    }
+    slotted_part(r)
 }
 
 // The orbit part of types 6 and 7, if there is one.
-pub(crate) fn maybe_orbits(s: &[u8], p: Cursor) -> OrbitLine {
-    if p.fault == 0 {
-        if next_is(s, p, ORBIT_EPOCH) {
-            return orbit_part(s, p, ORBIT_EPOCH, ORBIT_SSR, 1, 255);
-        }
+pub(crate) fn maybe_orbits(r: &mut Reader) -> Result<OrbitPart, Fault> {
+    if r.next() != b"orbit-epoch".as_slice() {
+        return Ok(no_orbits());
     }
-    let part = no_orbits();
-    OrbitLine { cursor: p, part }
+    orbit_part(r, b"orbit-epoch", b"orbit-ssr", 1, 255)
 }

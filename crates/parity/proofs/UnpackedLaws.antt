@@ -1,5 +1,6 @@
 -- The symbols taken out four at a time, and a group's sum by their logarithms.
-use Rattle.std.proofs.Common.{◌≡◌, ℕ, suc, ◌+◌, ◌*◌, ◌/◌, ◌%◌, ◌^◌, ◌<◌, ◌≤◌, Bool, true, not, T, eqb, ltb, List, [], ◌∷◌, ◌++◌, length, get_or, drop, replicate, sym, refl, ap, ◌∙◌, subst, ap₂, add-one, arith, eqb→eq, ltb→lt, drop_of_length-le, drop-cons}
+use Rattle.std.proofs.Common.{◌≡◌, ℕ, ◌+◌, ◌*◌, ◌/◌, ◌%◌, ◌^◌, ◌<◌, Bool, true, not, T, eqb, ltb, List, [], ◌∷◌, ◌++◌, length, get_or, drop, replicate, sym, refl, ap, ◌∙◌, subst, ap₂, arith, ltb→lt}
+use mathlib.Core.Logic.{◌⊎◌, inl, inr}
 use lib.Bits.{bit_xor, xor_zero_r}
 use lib.ListN.{get_or-append}
 use Rattle.bits.specs.Bits.{field_at}
@@ -41,16 +42,22 @@ unfolding symbol_logs
 fours_done s d out q e f g = g ∙ ap₂ (λ (n : ℕ) (x : List ℕ). table (symbol_log s) (4 * n) ++ drop (4 * n) x) e f
 
 -- one term more of a group, and none left
-pub row_by_step : (log exp ls p f : List ℕ) (r k : ℕ) → k < length p → k < length f
-    → bit_xor (bit_xor r (term_by log exp ls (get_or p k 0) (get_or f k 0))) (row_by log exp ls (drop (k + 1) p) (drop (k + 1) f)) ≡ bit_xor r (row_by log exp ls (drop k p) (drop k f))
+pub row_by_step : (log exp ls : List ℕ) (r : ℕ) {p f : ℕ} {ps fs qs gs : List ℕ} → ps ≡ p ∷ qs → fs ≡ f ∷ gs
+    → bit_xor (bit_xor r (term_by log exp ls p f)) (row_by log exp ls qs gs) ≡ bit_xor r (row_by log exp ls ps fs)
 unfolding row_by
-row_by_step log exp ls p f r k h l =
-    rw (add-one k, drop-cons p k 0 h, drop-cons f k 0 l)
-    (xor_assoc r (term_by log exp ls (get_or p k 0) (get_or f k 0)) (row_by log exp ls (drop (suc k) p) (drop (suc k) f)))
+row_by_step log exp ls r {p} {f} {qs = qs} {gs = gs} h l = rw (h, l) (xor_assoc r (term_by log exp ls p f) (row_by log exp ls qs gs))
 
-pub row_by_end : (log exp ls p f : List ℕ) (r k : ℕ) → length p ≤ k → r ≡ bit_xor r (row_by log exp ls (drop k p) (drop k f))
+pub row_by_end : (log exp ls : List ℕ) (r : ℕ) (ps fs : List ℕ) → (ps ≡ []) ⊎ (fs ≡ []) → r ≡ bit_xor r (row_by log exp ls ps fs)
 unfolding row_by
-row_by_end log exp ls p f r k h = sym (rw (drop_of_length-le p {i = k} h) (xor_zero_r r))
+row_by_end log exp ls r ps fs o = sym (rw (none o) (xor_zero_r r))
+  where
+    nought : (qs : List ℕ) → row_by log exp ls qs [] ≡ 0
+    nought [] = refl
+    nought (q ∷ qs) = refl
+
+    none : (ps ≡ []) ⊎ (fs ≡ []) → row_by log exp ls ps fs ≡ 0
+    none (inl e) = rw e refl
+    none (inr e) = rw e (nought ps)
 
 -- the logarithm at a position
 log_at : (s : List ℕ) (k : ℕ) → k < 164 → get_or (symbol_logs s) k 0 ≡ pad_log (symbol_of s k)
@@ -58,22 +65,6 @@ unfolding symbol_logs symbol_log
 log_at s k h =
     get_or-append (table (symbol_log s) 164) (replicate 92 0) 0 k (rw (length_table (symbol_log s) 164) h)
     ∙ get_or_table (symbol_log s) 164 k 0 h
-
--- four positions and four factors, by one test over the groups
-long : ℕ → Bool
-long g = both (eqb (length (get_or positions g [])) 4) (eqb (length (get_or factors g [])) 4)
-
-test_long : T (all long 81)
-unfolding long positions factors
-test_long = tt
-
-pub four_long : (g : ℕ) → g < 81 → (length (get_or positions g []) ≡ 4) × (length (get_or factors g []) ≡ 4)
-unfolding long
-four_long g h =
-    let t = below long 81 test_long g h in
-    let p = eqb (length (get_or positions g [])) 4 in
-    let f = eqb (length (get_or factors g [])) 4 in
-    (eqb→eq _ 4 (both_left p f t), eqb→eq _ 4 (both_right p f t))
 
 -- positions within the symbols and factors within a byte, by one test over the groups
 fitting : List ℕ → List ℕ → Bool

@@ -1,9 +1,9 @@
 -- The walk finds the parity: at each turn the group of that turn gives the next symbol of the only parity there is.
-use Rattle.std.proofs.Common.{◌≡◌, ℕ, zero, suc, ◌+◌, ◌*◌, ◌<◌, ◌≤◌, List, [], ◌∷◌, ◌++◌, length, get_or, drop, set, sym, refl, ap, ◌∙◌, subst, ap₂, ⊎_elim, add-one, arith, get_or-append-add, ext_get_or}
+use Rattle.std.proofs.Common.{◌≡◌, ℕ, zero, suc, ◌+◌, ◌*◌, ◌<◌, ◌≤◌, List, [], ◌∷◌, ◌++◌, length, get_or, sym, refl, ap, ◌∙◌, subst, ap₂, ⊎_elim, add-one, arith, get_or-append-add, ext_get_or}
 use lib.ListN.{get_or-append}
 use lib.Bits.{bit_xor, xor_zero_r, xor_comm, xor_self}
 use Rattle.bits.specs.Table.{table}
-use Rattle.bits.proofs.TableLaws.{length_table, get_or_table, fill_step, fill_done}
+use Rattle.bits.proofs.TableLaws.{length_table, get_or_table}
 use Rattle.bits.proofs.XorLaws.{xor_assoc, xor_zero, xor_swap, xor_cancel}
 use Rattle.field64.specs.Field.{product}
 use Rattle.field64.proofs.FieldLaws.{product_assoc, product_xor_left, product_xor_right, product_zero_right, product_one_left}
@@ -138,15 +138,12 @@ walked_parity_lem m e =
     subst (IsParity m) (sym (walked_is m O.parity e O.is)) O.is
 
 -- ---- the loops' turns
--- the last element stored, after the loop
-pub fill_last : (f : ℕ → ℕ) (n k : ℕ) (d out : List ℕ) (v : ℕ) → n ≡ k → length d ≡ k + 1 → out ≡ table f n ++ drop n d → v ≡ f n → set out k v ≡ table f (k + 1)
-fill_last f n k d out v q l e g =
-    fill_done f (k + 1) (k + 1) d (set out k v) refl l
-    (fill_step f k d out v 0 (omega arith) (subst (λ (i : ℕ). out ≡ table f i ++ drop i d) q e) (g ∙ ap f q))
-
-pub added_done : (m out d : List ℕ) (k : ℕ) → k ≡ 81 → length d ≡ 81 → out ≡ table (adds m) k ++ drop k d → out ≡ added m
-unfolding added
-added_done m out d k = fill_done (adds m) k 81 d out
+-- an element that is stored already
+pub filled : (f : ℕ → ℕ) (out : List ℕ) (k n : ℕ) (r : List ℕ) → k < n → out ≡ table f n ++ r → get_or out k 0 ≡ f k
+filled f out k n r l e =
+    ap (λ (o : List ℕ). get_or o k 0) e
+    ∙ get_or-append (table f n) r 0 k (rw (length_table f n) l)
+    ∙ get_or_table f n k 0 l
 
 pub walk_step : (cs d : List ℕ) (x k : ℕ) → bit_xor (get_or d k 0) (product (get_or cs k 0) (walked cs d x k)) ≡ walked cs d x (k + 1)
 unfolding walked
@@ -166,8 +163,8 @@ parity_is m d y r e f g h =
     (sym (h ∙ ap (λ (x : List ℕ). table (λ (j : ℕ). get_or x (get_or turns j 0) 0) 81) (g ∙ ap (ring_of carries) f)))
     (walked_parity_lem m e)
 
-pub turn_lt : (t : List ℕ) (j : ℕ) → t ≡ turns → j < 81 → get_or t j 0 < 82
-turn_lt t j e h = rw e (omega (arith, (meets j h).0))
+pub turn_lt : (j : ℕ) → j < 81 → get_or turns j 0 < 82
+turn_lt j h = omega (arith, (meets j h).0)
 
-pub link_lt : (l : List ℕ) (k : ℕ) → l ≡ links → k < 81 → (get_or l (4 * k) 0 < 81) × (get_or l (4 * k + 1) 0 < 81)
-link_lt l k e h = rw e ((fits_at k h).one, (fits_at k h).two)
+pub link_lt : (k : ℕ) → k < 81 → (get_or links (4 * k) 0 < 81) × (get_or links (4 * k + 1) 0 < 81)
+link_lt k h = ((fits_at k h).one, (fits_at k h).two)

@@ -1,9 +1,9 @@
 // The walk along the parity symbols (02, CR 9), worked out from 000's tables: each group has two parity symbols, and the groups link all 81 in a ring.
-ghost use Rattle.std.specs.Prelude.{◌≡◌};
+ghost use Rattle.std.specs.Prelude.{◌≡◌, ◌<◌, get_or};
 ghost use Rattle.parity_making.specs.Walk.{links, carries, turns};
 
 // For each turn: the two message symbols of its group, then the factor of each, divided by that of the parity symbol that is found.
-const LINKS: [u8; 324] = [
+static LINKS: [u8; 324] = [
     0, 42, 25, 11, 15, 65, 28, 10, 1, 50, 23, 28, 40, 67, 7, 30, 26, 59, 44, 53, 14, 56, 28, 10,
     10, 52, 44, 7, 24, 69, 11, 7, 4, 63, 23, 28, 38, 80, 11, 7, 19, 67, 44, 7, 7, 49, 25, 7, 20,
     77, 13, 11, 35, 72, 29, 40, 22, 60, 44, 7, 5, 47, 28, 10, 28, 69, 42, 45, 37, 54, 11, 7, 31,
@@ -21,7 +21,7 @@ const LINKS: [u8; 324] = [
 ];
 
 // For each turn: the factor of the parity symbol that is known, divided by that of the one that is found.
-const CARRIES: [u8; 81] = [
+static CARRIES: [u8; 81] = [
     7, 23, 10, 44, 24, 23, 30, 25, 48, 13, 30, 21, 7, 52, 30, 23, 15, 13, 52, 48, 52, 7, 44, 7, 25,
     24, 52, 44, 31, 7, 42, 30, 44, 24, 44, 10, 21, 15, 23, 7, 21, 24, 44, 40, 45, 44, 24, 45, 40,
     31, 48, 52, 7, 31, 6, 44, 24, 23, 24, 23, 24, 44, 6, 44, 10, 13, 24, 44, 7, 15, 6, 25, 25, 6,
@@ -29,30 +29,34 @@ const CARRIES: [u8; 81] = [
 ];
 
 // For each parity symbol: the turn at which it is found; 0 is the one that the walk starts at.
-const TURNS: [u8; 81] = [
+static TURNS: [u8; 81] = [
     0, 54, 27, 70, 43, 16, 39, 12, 66, 33, 6, 60, 25, 79, 52, 19, 73, 46, 77, 50, 23, 8, 62, 35,
     21, 75, 48, 37, 10, 64, 41, 14, 68, 56, 29, 2, 31, 4, 58, 72, 45, 18, 1, 55, 28, 69, 42, 15,
     38, 11, 65, 34, 7, 61, 59, 32, 5, 26, 80, 53, 20, 74, 47, 76, 49, 22, 9, 63, 36, 57, 30, 3, 51,
     24, 78, 67, 40, 13, 17, 71, 44,
 ];
 
-// The message symbols and their factors, to be lent to the walk.
-pub fn link_table() -> [u8; 324]
-    ensures { result ≡ links }
+// Entry i of the message symbols and their factors.
+pub fn link(i: usize) -> u8
+    requires { i < 324 }
+    ensures { result ≡ get_or links i 0 }
 {
-    LINKS
+    LINKS[i]
 }
 
-// The factors of the known symbols, to be lent to the walk.
-pub fn carry_table() -> [u8; 81]
-    ensures { result ≡ carries }
+// The factor of the symbol that is known at turn k.
+pub fn carry(k: usize) -> u8
+    requires { k < 81 }
+    ensures { result ≡ get_or carries k 0 }
 {
-    CARRIES
+    CARRIES[k]
 }
 
-// The turn of each parity symbol, to be lent.
-pub fn turn_table() -> [u8; 81]
-    ensures { result ≡ turns }
+// The turn of parity symbol j.
+pub fn turn(j: usize) -> u8
+    requires { j < 81 }
+    ensures entry { result ≡ get_or turns j 0 }
+    ensures within { result < 82 }
 {
-    TURNS
+    TURNS[j]
 }

@@ -1,20 +1,14 @@
 // The next piece of a log: frames are found by their sync and their parity, not counted off.
 #![tactic(auto)]
 
-ghost use Rattle.std.specs.Prelude.{◌≡◌, ◌≤◌, min};
+ghost use Rattle.std.specs.Prelude.{◌≡◌, ◌≤◌};
 ghost use Rattle.pieces.specs.Pieces.{is_frame, stands_at, piece_length};
 
 // Whether bytes are a frame with the right sync whose parity groups are all zero. The sync is looked at first.
 fn is_frame(f: &[u8]) -> bool
     ensures { result ≡ is_frame f.now }
 {
-    if f.len() != 125 {
-        return false;
-    }
-    if bits::get16(f, 0, 16) != 0xEB90 {
-        return false;
-    }
-    parity::parity_ok(f)
+    f.len() == 125 && bits::get16(f, 0, 16) == 0xEB90 && parity::parity_ok(f)
 }
 
 // Whether such a frame stands at byte p.
@@ -22,18 +16,7 @@ fn stands(s: &[u8], p: usize) -> bool
     requires { p ≤ 125 }
     ensures { result ≡ stands_at s.now p }
 {
-    let e = p + 125;
-    if s.len() < e {
-        return false;
-    }
-    is_frame(&s[p..e])
-}
-
-// 125, or the length where it is less.
-fn at_most(n: usize) -> u8
-    ensures { result ≡ min 125 n }
-{
-    if n < 125 { n as u8 } else { 125 }
+    p + 125 <= s.len() && is_frame(&s[p..p + 125])
 }
 
 // The bytes of the next piece: a frame that stands at the start, else what comes before the first that stands at 1 to 125, else 125, or what is left.
@@ -43,12 +26,10 @@ pub fn piece_length(s: &[u8]) -> u8
     if stands(s, 0) {
         return 125;
     }
-    let mut p: u8 = 1;
-    while p < 126 {
+    for p in 1..126u8 {
         if stands(s, p as usize) {
             return p;
         }
-        p += 1;
     }
-    at_most(s.len())
+    s.len().min(125) as u8
 }

@@ -1,8 +1,8 @@
 // What one frame does under the mask in force: whether clocks or codes by place are refused (14, 15, 19), and how records are kept.
 #![tactic(auto)]
 
-ghost use Rattle.std.specs.Prelude.{◌≡◌};
-ghost use Rattle.verdict.specs.Verdict.{says};
+ghost use Rattle.std.specs.Prelude.{◌≡◌, Err};
+ghost use Rattle.verdict.specs.Verdict.{says, refused_says, refused_by};
 ghost use Rattle.held_mask.specs.Mask.{mask_at};
 ghost use Rattle.places.specs.Keeps.{held_orbit, held_clock, needs_mask, as_place, first_place, other_mask, place_to_check, place_number, place_refusal, place_says, first_code, code_refusal};
 
@@ -13,24 +13,20 @@ use records::clock::Clock;
 use records::orbit::Orbit;
 use slots::Place;
 use ura_codes::CodePart;
-use verdict::{Verdict, verdict_of};
+use verdict::{Refusal, Refused, Verdict};
 
 // Whether the clock records go by places in the mask.
 pub fn needs_mask(kind: u8, p: ClockPart) -> bool
     ensures { result ≡ needs_mask kind p }
 {
-    (kind == 4) | ((kind == 6) & (p.count > 0))
+    kind == 4 || (kind == 6 && p.count > 0)
 }
 
 // A number as a place. What 16 bits do not hold is 65535: no satellite has the one or the other.
 fn as_place(n: u32) -> Place
     ensures { result.0 ≡ as_place n }
 {
-    if n < 65536 {
-        Place(n as u16)
-    } else {
-        Place(65535)
-    }
+    Place(n.min(65535) as u16)
 }
 
 // The place of the first clock record.
@@ -58,13 +54,6 @@ fn place_to_check(kind: u8, p: ClockPart) -> Place
     as_place(end - 1)
 }
 
-// The number for a place that no satellite has.
-fn place_number(kind: u8) -> u8
-    ensures { result ≡ place_number kind }
-{
-    if kind == 4 { 15 } else { 19 }
-}
-
 // Whether no mask is held, or one of another IOD SSR or IODP.
 fn is_other_mask(t: &[u8], ssr: u8, iodp: u8) -> bool
     ensures { result ≡ other_mask (mask_at t.now) ssr iodp }
@@ -73,31 +62,31 @@ fn is_other_mask(t: &[u8], ssr: u8, iodp: u8) -> bool
     !(has & (held_mask::mask_ssr(t) == ssr) & (held_mask::mask_iodp(t) == iodp))
 }
 
-// Why clocks by place are refused under the mask held: 14, 15 or 19; 0 if they are not.
-fn place_refusal(t: &[u8], kind: u8, p: ClockPart) -> u8
-    ensures { result ≡ place_refusal (mask_at t.now) kind p }
+// Why a place that no satellite has is refused: 15 in type 4, else 19, which gives the number of places too.
+fn no_place(t: &[u8], kind: u8) -> Refusal
+    ensures { says (Err result) ≡ place_says (mask_at t.now) (place_number kind) }
 {
-    if !needs_mask(kind, p) {
-        return 0;
+    if kind == 4 {
+        Refusal::Number(15)
+    } else {
+        Refusal::Places(mask_counts::set_count(t))
     }
-    if is_other_mask(t, p.ssr, p.iodp) {
-        return 14;
-    }
-    if mask_counts::is_past_last(t, place_to_check(kind, p)) {
-        return place_number(kind);
-    }
-    0
 }
 
-// The verdict on clocks by place under the mask held; 19 gives the number of places too.
+// The verdict on clocks by place under the mask held: 14, 15 or 19, or taken.
 pub fn place_verdict(t: &[u8], kind: u8, p: ClockPart) -> Verdict
     ensures { says result ≡ place_says (mask_at t.now) (place_refusal (mask_at t.now) kind p) }
 {
-    let n = place_refusal(t, kind, p);
-    if n == 19 {
-        return Verdict::Places(mask_counts::set_count(t));
+    if !needs_mask(kind, p) {
+        return Ok(());
     }
-    verdict_of(n)
+    if is_other_mask(t, p.ssr, p.iodp) {
+        return Err(Refusal::Number(14));
+    }
+    if mask_counts::is_past_last(t, place_to_check(kind, p)) {
+        return Err(no_place(t, kind));
+    }
+    Ok(())
 }
 
 // The place of the first code of a type 5.
@@ -107,17 +96,17 @@ pub fn first_code(u: CodePart) -> Place
     Place(70 * (u.sub as u16) + 1)
 }
 
-// Why the codes of a type 5 are refused under the mask held: 14 or 15; 0 if they are not.
-pub fn code_refusal(t: &[u8], u: CodePart) -> u8
-    ensures { result ≡ code_refusal (mask_at t.now) u }
+// Why the codes of a type 5 are refused under the mask held: 14 or 15, if they are.
+pub fn code_refusal(t: &[u8], u: CodePart) -> Result<(), Refused>
+    ensures { refused_says result ≡ refused_by (code_refusal (mask_at t.now) u) }
 {
     if is_other_mask(t, u.ssr, u.iodp) {
-        return 14;
+        return Err(Refused(14));
     }
     if mask_counts::is_past_last(t, first_code(u)) {
-        return 15;
+        return Err(Refused(15));
     }
-    0
+    Ok(())
 }
 
 // A clock record as it is kept.

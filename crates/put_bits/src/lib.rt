@@ -33,11 +33,9 @@ pub fn put(room: &mut [u8], at: usize, n: u8, v: u64)
     ensures { room.new ≡ put_at room.old at n v }
 {
     let mut x = v;
-    let mut k = n;
-    while 0 < k {
-        k -= 1;
+    for k in (0..n).rev() {
         set_bit(room, at, k as usize, x % 2);
-        x = x / 2;
+        x /= 2;
     }
 }
 
@@ -46,12 +44,8 @@ pub fn puts(room: &mut [u8], at: u32, ws: [u8; 8], vs: [u64; 8])
     ensures { room.new ≡ puts_at room.old at ws vs }
 {
     let mut a = at as usize;
-    let mut i: usize = 0;
-    while i < 8 {
-        let w = ws[i];
-        let v = vs[i];
+    for (&w, &v) in ws.iter().zip(&vs) {
         put(room, a, w, v);
         a += w as usize;
-        i += 1;
     }
 }

@@ -1,7 +1,7 @@
 // The calls of include/quieuvodan.h; quieuvodan_c exports them for C. Every function answers 0 or one refusal number; 39 is a lent slice of a wrong length.
 #![tactic(auto)]
 
-ghost use Rattle.std.specs.Prelude.{◌≡◌, length};
+ghost use Rattle.std.specs.Prelude.{◌≡◌, [], length};
 ghost use Rattle.verdict.specs.Verdict.{says, number_in};
 ghost use Rattle.message.specs.Read.{reading_says};
 ghost use Rattle.making.specs.Make.{Leaves};
@@ -106,19 +106,15 @@ pub fn qvd_row(ledger: &[u8], issues: &[u16], slot: u16, row: &mut [u8]) -> u8
     row_rooms::row(ledger, issues, slot, row)
 }
 
-// The contents that are read are put, where the reading is taken; its verdict.
+// The contents that are read are put, or it is said why there are none.
 fn put_reading(room: &mut [u8], r: Reading) -> Verdict
-    requires { length room.old ≡ contents_size }
+    requires room { length room.old ≡ contents_size }
+    requires quiet { number_in (reading_says r).said ≡ 0 → (reading_says r).said ≡ [] }
     ensures answer { says result ≡ (reading_says r).said }
     ensures bytes { room.new ≡ reading_room (reading_says r) room.old }
 {
-    let v = r.verdict;
-    if number_of(v) != 0 {
-        return v;
-    }
-    let c = r.contents;
-    put_contents(room, c);
-    v
+    put_contents(room, r?);
+    Ok(())
 }
 
 // The contents of a message; on a refusal the room is as it was. 1, 2, 7 to 13, 39.

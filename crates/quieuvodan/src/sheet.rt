@@ -1,5 +1,5 @@
 // Correction sheets at the C boundary, of a ledger and of a PRN in a table: 02, CR 7, CR 10 and CR 14.
-ghost use Rattle.std.specs.Prelude.{◌≡◌, ℕ, ◌+◌, ◌*◌, ◌≤◌, [], ◌∷◌, length};
+ghost use Rattle.std.specs.Prelude.{◌≡◌, ℕ, ◌+◌, ◌*◌, ◌≤◌, [], ◌∷◌, length, Err};
 ghost use Rattle.verdict.specs.Verdict.{number_in};
 ghost use Rattle.sheet_writing.specs.Writing.{most_sheet_rows, sheet_says};
 ghost use Rattle.sheet_checking.specs.Checking.{checked_says};
@@ -8,17 +8,18 @@ ghost use Rattle.answers.specs.Detail.{detail_in};
 ghost use Rattle.table_calls.specs.Table.{table_sheet_answer, table_sheet_room, table_sheet_tally, table_check_answer, table_check_tally};
 
 use held_mask::LEDGER_SIZE;
-use sheet_checking::{Checked, check_sheet};
+use sheet_checking::{Checked, Fault, check_sheet};
 use sheet_writing::{Sheet, write_sheet};
 use tally::{TALLY_SIZE, count};
+use verdict::Refused;
 
 // What a writer's answer says in one number: 256 times the sheet's length, or the refusal number.
 fn written(a: Sheet) -> u32
     ensures { result ≡ written_in (sheet_says a) }
 {
     match a {
-        Sheet::Written(n) => 256 * (n as u32),
-        Sheet::Refused(n) => n as u32,
+        Ok(n) => 256 * (n as u32),
+        Err(Refused(n)) => n as u32,
     }
 }
 
@@ -42,18 +43,28 @@ pub fn qvd_read_sheet(sheet: &[u8], header: &mut [u8], rows: &mut [u8]) -> u32
     sheet_rooms::read_into(sheet, header, rows)
 }
 
-// What a checker's answer says in one number: 256 times the rows left out, or the refusal number and 256 times the value beside it.
+// What is at fault with a sheet in one number: the refusal number, and 256 times the value beside it.
+fn faulty(f: Fault) -> u32
+    requires { (at : ℕ) → 23 ∷ at ∷ [] ≡ checked_says (Err f) → at ≤ 8 + 24 * most_sheet_rows + 3 }
+    ensures { result ≡ detail_in (checked_says (Err f)) }
+{
+    match f {
+        Fault::Number(n) => n as u32,
+        Fault::Wrong(at) => 23 + 256 * at,
+        Fault::Unknown(k) => 24 + 256 * (k as u32),
+        Fault::Other(k) => 25 + 256 * (k as u32),
+        Fault::Repeated(k) => 26 + 256 * (k as u32),
+    }
+}
+
+// What a checker's answer says in one number: 256 times the rows left out, or what is at fault.
 fn checked(a: Checked) -> u32
     requires { (at : ℕ) → 23 ∷ at ∷ [] ≡ checked_says a → at ≤ 8 + 24 * most_sheet_rows + 3 }
     ensures { result ≡ detail_in (checked_says a) }
 {
     match a {
-        Checked::Accepted(left) => 256 * (left as u32),
-        Checked::Refused(n) => n as u32,
-        Checked::Wrong(at) => 23 + 256 * at,
-        Checked::Unknown(k) => 24 + 256 * (k as u32),
-        Checked::Other(k) => 25 + 256 * (k as u32),
-        Checked::Repeated(k) => 26 + 256 * (k as u32),
+        Ok(left) => 256 * (left as u32),
+        Err(f) => faulty(f),
     }
 }
 
@@ -72,8 +83,8 @@ fn written_number(a: Sheet) -> u8
     ensures { result ≡ (sheet_says a).0 }
 {
     match a {
-        Sheet::Written(_) => 0,
-        Sheet::Refused(n) => n,
+        Ok(_) => 0,
+        Err(Refused(n)) => n,
     }
 }
 
@@ -82,12 +93,12 @@ fn checked_number(a: Checked) -> u8
     ensures { result ≡ number_in (checked_says a) }
 {
     match a {
-        Checked::Accepted(_) => 0,
-        Checked::Refused(n) => n,
-        Checked::Wrong(_) => 23,
-        Checked::Unknown(_) => 24,
-        Checked::Other(_) => 25,
-        Checked::Repeated(_) => 26,
+        Ok(_) => 0,
+        Err(Fault::Number(n)) => n,
+        Err(Fault::Wrong(_)) => 23,
+        Err(Fault::Unknown(_)) => 24,
+        Err(Fault::Other(_)) => 25,
+        Err(Fault::Repeated(_)) => 26,
     }
 }
 

@@ -1,18 +1,17 @@
 // A table of four ledgers at the C boundary, with the tally of refusals: 02, CR 14.
 ghost use Rattle.std.specs.Prelude.{◌≡◌};
-ghost use Rattle.verdict.specs.Verdict.{number_in};
+ghost use Rattle.verdict.specs.Verdict.{number_in, refused_says, refused_by};
 ghost use Rattle.answers.specs.Detail.{detail_in};
 ghost use Rattle.table_calls.specs.Table.{table_open_answer, table_opened, table_open_tally, table_close_answer, table_closed, table_close_tally, table_take_answer, table_taken, table_take_tally, rows_for_refusal, table_rows_answer, table_rows_room, table_rows_tally, table_row_answer, table_row_room, table_row_tally};
 
 use answers::{ROW_SIZE, ROWS_SIZE, detail};
 use flat_forms::put_row;
-use row::RowAnswer;
 use row_rooms::fill_rows;
 use table::{close, open, take};
 use table_form::ledger_for;
 use table_list::{asking_refusal, row_of_slot};
 use tally::{TALLY_SIZE, count};
-use verdict::number_of;
+use verdict::{Refused, number_of};
 
 // A ledger is opened for a PRN in the first room that is free. 4, 28, 29, 39.
 pub fn qvd_table_open(table: &mut [u8], tally: &mut [u8], prn: u8) -> u8
@@ -70,12 +69,12 @@ pub fn qvd_table_take_detail(table: &mut [u8], tally: &mut [u8], frame: &[u8]) -
     detail(v)
 }
 
-// Why the rows of a PRN's list are refused: 39 where n bytes are not their room, then as the question; 0 if they are not.
-fn rows_refusal(table: &[u8], prn: u8, issues: &[u16], n: usize) -> u8
-    ensures { result ≡ rows_for_refusal table.now prn issues.now n }
+// Why the rows of a PRN's list are refused, if they are: 39 where n bytes are not their room, then as the question.
+fn rows_refusal(table: &[u8], prn: u8, issues: &[u16], n: usize) -> Result<(), Refused>
+    ensures { refused_says result ≡ refused_by (rows_for_refusal table.now prn issues.now n) }
 {
     if n != ROWS_SIZE {
-        return 39;
+        return Err(Refused(39));
     }
     asking_refusal(table, prn, issues)
 }
@@ -95,10 +94,9 @@ pub fn qvd_table_rows(
     if tally.len() != TALLY_SIZE {
         return 39;
     }
-    let why = rows_refusal(table, prn, issues, rows.len());
-    if why != 0 {
-        count(tally, why);
-        return why;
+    if let Err(Refused(n)) = rows_refusal(table, prn, issues, rows.len()) {
+        count(tally, n);
+        return n;
     }
     fill_rows(ledger_for(table, prn), issues, rows);
     0
@@ -124,13 +122,12 @@ pub fn qvd_table_row(
         count(tally, 39);
         return 39;
     }
-    let a = row_of_slot(table, prn, issues, slot);
-    match a {
-        RowAnswer::Found(r) => {
+    match row_of_slot(table, prn, issues, slot) {
+        Ok(r) => {
             put_row(row, 0, r);
             0
         }
-        RowAnswer::Refused(n) => {
+        Err(Refused(n)) => {
             count(tally, n);
             n
         }

@@ -49,18 +49,12 @@ pub fn end_at(s: &[u8], at: u8) -> u32
 pub fn contents_at(s: &[u8], at: u8) -> Contents
     ensures { result ≡ contents_at s.now at }
 {
-    let kind = kind_of(s, at);
-    let mask = mask_of(s, at);
-    let clock = clocks_of(s, at);
-    let orbit = orbits_of(s, at);
-    let bias = biases_of(s, at);
-    let code = codes_of(s, at);
     Contents {
-        kind,
-        mask,
-        clock,
-        orbit,
-        bias,
-        code,
+        kind: kind_of(s, at),
+        mask: mask_of(s, at),
+        clock: clocks_of(s, at),
+        orbit: orbits_of(s, at),
+        bias: biases_of(s, at),
+        code: codes_of(s, at),
     }
 }

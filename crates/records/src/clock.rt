@@ -6,7 +6,7 @@ ghost use Rattle.records.specs.Clock.{blank_clock, clock_of, clock_at};
 use crate::signed::signed;
 
 // C0 is raw. In a record with no slot of its own, slot is 0.
-#[derive(Clone, Copy)]
+#[derive(Clone, Copy, PartialEq, Eq)]
 pub struct Clock {
     pub slot: u16,
     pub corr: u8,

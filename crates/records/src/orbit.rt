@@ -6,7 +6,7 @@ use crate::signed::signed;
 use ura::{Ura, ura_of};
 
 // Radial, along and cross are raw.
-#[derive(Clone, Copy)]
+#[derive(Clone, Copy, PartialEq, Eq)]
 pub struct Orbit {
     pub slot: u16,
     pub iodn: u16,

@@ -1,6 +1,7 @@
 // Raw numbers as tenths of a millimetre; biases as millimetres.
 ghost use Rattle.std.specs.Prelude.{◌≡◌, ◌*ℤ◌, pos};
 
+// Kept: no plainer: the three factors are one line each, and one generic function would need a bound on its factor.
 // Radial and C0: raw times 16.
 pub fn times16(raw: i16) -> i32
     ensures { result ≡ raw *ℤ pos 16 }

@@ -2,7 +2,7 @@
 #![tactic(auto)]
 
 ghost use Rattle.std.specs.Prelude.{◌≡◌, ◌+◌, ◌/◌, length};
-ghost use Rattle.verdict.specs.Verdict.{number_in};
+ghost use Rattle.verdict.specs.Verdict.{refused_says, number_in, refused_by};
 ghost use Rattle.in_force.specs.Bytes.{run_bytes, frames_of};
 ghost use Rattle.answers.specs.Detail.{detail_in};
 ghost use Rattle.ledger_calls.specs.Ledger.{verdicts_of, replay_refusal, replay_answer, replay_ledger, replay_verdicts};
@@ -12,7 +12,7 @@ use frame::is_prn;
 use held_mask::LEDGER_SIZE;
 use ledger::open::make_fresh;
 use ledger::replay::{frame_count, take_nth};
-use verdict::number_of;
+use verdict::{Refused, number_of};
 
 // The frames of a log are taken in order, and the number of each verdict is kept.
 fn take_all(t: &mut [u8], log: &[u8], verdicts: &mut [u8])
@@ -20,11 +20,9 @@ fn take_all(t: &mut [u8], log: &[u8], verdicts: &mut [u8])
     ensures bytes { t.new ≡ run_bytes t.old (frames_of log.now) }
     ensures answers { verdicts.new ≡ verdicts_of number_in t.old log.now }
 {
-    let mut i: usize = 0;
-    while i < verdicts.len() {
+    for i in 0..verdicts.len() {
         let n = number_of(take_nth(t, log, i));
         verdicts[i] = n;
-        i += 1;
     }
 }
 
@@ -34,28 +32,26 @@ fn take_all_detail(t: &mut [u8], log: &[u8], details: &mut [u32])
     ensures bytes { t.new ≡ run_bytes t.old (frames_of log.now) }
     ensures answers { details.new ≡ verdicts_of detail_in t.old log.now }
 {
-    let mut i: usize = 0;
-    while i < details.len() {
+    for i in 0..details.len() {
         let n = detail(take_nth(t, log, i));
         details[i] = n;
-        i += 1;
     }
 }
 
-// Why a replay is refused, by the lengths of what is lent and the PRN. 4, 39; 0 if it is not.
-fn replay_refusal(ledger: usize, prn: u8, log: usize, verdicts: usize) -> u8
-    ensures { result ≡ replay_refusal ledger prn log verdicts }
+// Why a replay is refused, by the lengths of what is lent and the PRN, if it is. 4, 39.
+fn replay_refusal(ledger: usize, prn: u8, log: usize, verdicts: usize) -> Result<(), Refused>
+    ensures { refused_says result ≡ refused_by (replay_refusal ledger prn log verdicts) }
 {
     if ledger != LEDGER_SIZE {
-        return 39;
+        return Err(Refused(39));
     }
     if verdicts != frame_count(log) {
-        return 39;
+        return Err(Refused(39));
     }
     if !is_prn(prn) {
-        return 4;
+        return Err(Refused(4));
     }
-    0
+    Ok(())
 }
 
 // A fresh ledger for a PRN takes all frames of a log, one verdict byte a frame; a rest at the end is one more frame. 4, 39.
@@ -64,9 +60,8 @@ pub fn replay(ledger: &mut [u8], prn: u8, log: &[u8], verdicts: &mut [u8]) -> u8
     ensures bytes { ledger.new ≡ replay_ledger ledger.old prn log.now verdicts.old }
     ensures answers { verdicts.new ≡ replay_verdicts number_in ledger.old prn log.now verdicts.old }
 {
-    let why = replay_refusal(ledger.len(), prn, log.len(), verdicts.len());
-    if why != 0 {
-        return why;
+    if let Err(why) = replay_refusal(ledger.len(), prn, log.len(), verdicts.len()) {
+        return why.0;
     }
     make_fresh(ledger, prn);
     take_all(ledger, log, verdicts);
@@ -79,9 +74,8 @@ pub fn replay_detail(ledger: &mut [u8], prn: u8, log: &[u8], details: &mut [u32]
     ensures bytes { ledger.new ≡ replay_ledger ledger.old prn log.now details.old }
     ensures answers { details.new ≡ replay_verdicts detail_in ledger.old prn log.now details.old }
 {
-    let why = replay_refusal(ledger.len(), prn, log.len(), details.len());
-    if why != 0 {
-        return why;
+    if let Err(why) = replay_refusal(ledger.len(), prn, log.len(), details.len()) {
+        return why.0;
     }
     make_fresh(ledger, prn);
     take_all_detail(ledger, log, details);

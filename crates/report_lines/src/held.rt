@@ -5,15 +5,6 @@ use crate::counts::put_count;
 use console::put::{cursor_in, put_bytes, put_text};
 use ledger_log::epochs::Epochs;
 
-// Bits of satellites, by how many are set and how many of them are reserved.
-fn assigned_of(set: u16, reserved: u16) -> u64 {
-    if reserved < set {
-        (set - reserved) as u64
-    } else {
-        0
-    }
-}
-
 // The line of the reserved bits of the mask, if any is set.
 fn put_reserved(room: &mut [u8], at: usize, reserved: u16) -> usize
     ensures { IsPrefixLen result room.new }
@@ -21,14 +12,14 @@ fn put_reserved(room: &mut [u8], at: usize, reserved: u16) -> usize
     if reserved == 0 {
         return cursor_in(room, at);
     }
-    put_count(room, at, b"reserved", reserved as u64)
+    put_count(room, at, b"reserved", u64::from(reserved))
 }
 
 // The line of a mask.
-fn put_mask_line(room: &mut [u8], at: usize, ssr: u8, iodp: u8, satellites: u64) -> usize
+fn put_mask_line(room: &mut [u8], at: usize, ssr: u8, iodp: u8, satellites: u16) -> usize
     ensures { IsPrefixLen result room.new }
 {
-    let numbers = [ssr as u64, iodp as u64, satellites];
+    let numbers = [u64::from(ssr), u64::from(iodp), u64::from(satellites)];
     put_text(room, at, b"mask ssr # iodp # satellites #\n", &numbers)
 }
 
@@ -42,16 +33,24 @@ pub fn put_mask(room: &mut [u8], at: usize, ledger: &[u8]) -> usize
     let ssr = held_mask::mask_ssr(ledger);
     let iodp = held_mask::mask_iodp(ledger);
     let reserved = crate::rows::reserved_count(ledger);
-    let satellites = assigned_of(mask_counts::set_count(ledger), reserved);
+    let satellites = mask_counts::set_count(ledger).saturating_sub(reserved);
     let a = put_mask_line(room, at, ssr, iodp, satellites);
     put_reserved(room, a, reserved)
 }
 
-// The line of the epochs, where there are any.
-fn put_some_epochs(room: &mut [u8], at: usize, e: Epochs) -> usize
+// The line of the epochs of the frames taken.
+pub fn put_epochs(room: &mut [u8], at: usize, e: Epochs) -> usize
     ensures { IsPrefixLen result room.new }
 {
-    let numbers = [e.first as u64, e.last as u64, e.gap as u64, e.since];
+    if !e.has {
+        return put_bytes(room, at, b"epochs none\n");
+    }
+    let numbers = [
+        u64::from(e.first),
+        u64::from(e.last),
+        u64::from(e.gap),
+        e.since,
+    ];
     put_text(
         room,
         at,
@@ -60,22 +59,12 @@ fn put_some_epochs(room: &mut [u8], at: usize, e: Epochs) -> usize
     )
 }
 
-// The line of the epochs of the frames taken.
-pub fn put_epochs(room: &mut [u8], at: usize, e: Epochs) -> usize
-    ensures { IsPrefixLen result room.new }
-{
-    if e.has {
-        return put_some_epochs(room, at, e);
-    }
-    put_bytes(room, at, b"epochs none\n")
-}
-
 // The satellites of the mask in force that have no row: how many, and a table of them unless there is none.
 fn put_absent(room: &mut [u8], at: usize, ledger: &[u8], issues: &[u16; 255]) -> usize
     ensures { IsPrefixLen result room.new }
 {
     let k = crate::rows::absent_count(ledger, issues);
-    let n = put_count(room, at, b"absent", k as u64);
+    let n = put_count(room, at, b"absent", u64::from(k));
     if k == 0 {
         return n;
     }
@@ -86,7 +75,7 @@ fn put_absent(room: &mut [u8], at: usize, ledger: &[u8], issues: &[u16; 255]) ->
 pub fn put_list(room: &mut [u8], at: usize, ledger: &[u8], issues: &[u16; 255], rows: u32) -> usize
     ensures { IsPrefixLen result room.new }
 {
-    let a = put_count(room, at, b"rows", rows as u64);
+    let a = put_count(room, at, b"rows", u64::from(rows));
     let b = crate::rows::put_table(room, a, ledger, issues);
     put_absent(room, b, ledger, issues)
 }

@@ -1,5 +1,5 @@
 -- 01, What the ledger keeps: when a slot qualifies, and its row.
-use Rattle.std.specs.Prelude.{ℕ, Bool, true, false, not, ◌&&◌, List, eqb, leb, ℤ, pos, negsuc, ◌*ℤ◌}
+use Rattle.std.specs.Prelude.{ℕ, Bool, true, false, not, ◌&&◌, List, eqb, leb, ℤ, pos, negsuc, ◌*ℤ◌, Result, Ok, Err}
 use Rattle.std.proofs.Math.Option.{Option, none, some}
 use Rattle.bits.specs.Pick.{pick}
 use Rattle.slots.specs.Slots.{satellite_of}
@@ -15,8 +15,7 @@ use Rattle.held_codes.specs.declared.HeldCode.{HeldCode}
 use Rattle.mask_bits.specs.Bits.{bit_at_slot}
 use Rattle.held_mask.specs.Mask.{HeldMask, mask_at}
 use Rattle.row.specs.declared.Row.{Row}
-use Rattle.row.specs.declared.RowAnswer.{RowAnswer}
-use Rattle.row.specs.declared.RowAnswer.TheVariants.{Found, Refused}
+use Rattle.verdict.specs.declared.Refused.{Refused}
 
 -- 01: the URA code is not 0
 abbrev pub is_known : Ura → Bool
@@ -90,9 +89,9 @@ abbrev pub row_held : List ℕ → ℕ → ℕ → Option Row
 row_held s issue slot = row_of (mask_at s) (coded_at s slot) (held_clock_at s slot) issue slot
 
 -- 01, Refusal numbers: the number and the value of each answer; a row is 0 and the row, a refusal its number alone
-abbrev pub row_says : RowAnswer → ℕ × Option Row
-row_says (Found r) = (0, some r)
-row_says (Refused n) = (n, none)
+abbrev pub row_says : Result Row Refused → ℕ × Option Row
+row_says (Ok r) = (0, some r)
+row_says (Err n) = (n.0, none)
 
 -- refused with n; else the row, or 18 where there is none
 abbrev pub answer_of : ℕ → Option Row → ℕ × Option Row

@@ -11,6 +11,7 @@ use held_codes::HeldCode;
 use held_orbits::HeldOrbit;
 use slots::{Slot, System};
 use ura::{Ura, ura_of};
+use verdict::Refused;
 
 // A row of the list. Orbit values and clock in tenths of a millimetre.
 #[derive(Clone, Copy)]
@@ -28,11 +29,7 @@ pub struct Row {
 }
 
 // A row, or one of 01's refusal numbers.
-#[derive(Clone, Copy)]
-pub enum RowAnswer {
-    Found(Row),
-    Refused(u8),
-}
+pub type RowAnswer = Result<Row, Refused>;
 
 // Whether a slot has a satellite: 1 to 174.
 fn is_assigned(slot: Slot) -> bool
@@ -137,21 +134,21 @@ pub fn slot_row(ledger: &[u8], slot: Slot, issue: u16) -> RowAnswer
     ensures { row_says result ≡ answer_of 0 (row_held ledger.now issue slot.0) }
 {
     if !is_assigned(slot) {
-        return RowAnswer::Refused(18);
+        return Err(Refused(18));
     }
     if !held_mask::has_mask(ledger) {
-        return RowAnswer::Refused(18);
+        return Err(Refused(18));
     }
     if !mask_bits::has_bit(ledger, slot) {
-        return RowAnswer::Refused(18);
+        return Err(Refused(18));
     }
     let o = coded_orbit(ledger, slot);
     let k = held_clocks::get_clock(ledger, slot);
     if !do_agree(held_mask::mask_ssr(ledger), o, k, issue) {
-        return RowAnswer::Refused(18);
+        return Err(Refused(18));
     }
     if !is_usable(o, k) {
-        return RowAnswer::Refused(18);
+        return Err(Refused(18));
     }
-    RowAnswer::Found(row_from(slot, o, k))
+    Ok(row_from(slot, o, k))
 }

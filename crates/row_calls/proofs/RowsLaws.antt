@@ -13,8 +13,8 @@ use Rattle.lookback.proofs.WalkLaws.{rows_step, rows_end}
 use Rattle.row.specs.Row.{row_says, answer_of}
 use Rattle.list.specs.Rows.{found_count}
 use Rattle.row.specs.declared.Row.{Row}
-use Rattle.row.specs.declared.RowAnswer.{RowAnswer}
-use Rattle.row.specs.declared.RowAnswer.TheVariants.{Found, Refused}
+use Rattle.std.specs.Prelude.{Result, Ok, Err}
+use Rattle.verdict.specs.declared.Refused.{Refused}
 use Rattle.flat_forms.specs.Write.{row_bytes}
 use Rattle.flat_numbers.proofs.StoreLaws.{store_two}
 use Rattle.held_mask.specs.Size.{size}
@@ -50,11 +50,11 @@ module _ (f : ℕ → Option Row) (i n k : ℕ) (s t : List ℕ) (a : ℕ × Opt
   rows_over h = rw (rows_end f 255 i (i + 1) h)
 
 -- the answer put as row n
-pub answer_none : (s : List ℕ) (n : ℕ) (a : RowAnswer) (m : ℕ) → a ≡ Refused m → (n ≡ n + found_count (row_says a)) × (s ≡ store_at s (row_size * n) (answer_bytes (row_says a).1))
+pub answer_none : (s : List ℕ) (n : ℕ) (a : Result Row Refused) (m : Refused) → a ≡ Err m → (n ≡ n + found_count (row_says a)) × (s ≡ store_at s (row_size * n) (answer_bytes (row_says a).1))
 unfolding store_at
 answer_none s n a m e = rw e (omega arith, refl)
 
-pub answer_some : (s : List ℕ) (n : ℕ) (a : RowAnswer) (r : Row) (t : List ℕ) → a ≡ Found r → t ≡ store_at s (row_size * n) (row_bytes r) →
+pub answer_some : (s : List ℕ) (n : ℕ) (a : Result Row Refused) (r : Row) (t : List ℕ) → a ≡ Ok r → t ≡ store_at s (row_size * n) (row_bytes r) →
     (n + 1 ≡ n + found_count (row_says a)) × (t ≡ store_at s (row_size * n) (answer_bytes (row_says a).1))
 answer_some s n a r t e b = rw e (refl, b)
 
@@ -78,12 +78,12 @@ module _ (s is : List ℕ) (slot : ℕ) (room : List ℕ) where
   unfolding row_answer row_room
   row_size_lem l n = (rw (eq-eqb _ _ l, ne_eqb _ _ n), rw (eq-eqb _ _ l, ne_eqb _ _ n))
 
-  pub row_found : (r : Row) (t : List ℕ) → length s ≡ size → length room ≡ row_size → row_of_slot_answer s is slot ≡ row_says (Found r) → t ≡ store_at room 0 (row_bytes r) →
+  pub row_found : (r : Row) (t : List ℕ) → length s ≡ size → length room ≡ row_size → row_of_slot_answer s is slot ≡ row_says (Ok r) → t ≡ store_at room 0 (row_bytes r) →
       (0 ≡ row_answer s is slot room) × (t ≡ row_room s is slot room)
   unfolding row_answer row_room
   row_found r t l m e b = (rw (eq-eqb _ _ l, eq-eqb _ _ m, e), rw (eq-eqb _ _ l, eq-eqb _ _ m, e) (b ∙ row_whole room r m))
 
-  pub row_none : (n : ℕ) → length s ≡ size → length room ≡ row_size → row_of_slot_answer s is slot ≡ row_says (Refused n) → (n ≡ row_answer s is slot room) × (room ≡ row_room s is slot room)
+  pub row_none : (n : Refused) → length s ≡ size → length room ≡ row_size → row_of_slot_answer s is slot ≡ row_says (Err n) → (n.0 ≡ row_answer s is slot room) × (room ≡ row_room s is slot room)
   unfolding row_answer row_room
   row_none n l m e = (rw (eq-eqb _ _ l, eq-eqb _ _ m, e), rw (eq-eqb _ _ l, eq-eqb _ _ m, e))
 

@@ -28,7 +28,7 @@ pub fn put_next(room: &mut [u8], at: usize, by: u8, x: u64) -> usize
 pub fn put_satellite(room: &mut [u8], at: usize, by: u8, slot: Slot) -> usize
     ensures { IsPrefixLen result room.new }
 {
-    let a = put_number(room, at, slot.0 as u64);
+    let a = put_number(room, at, u64::from(slot.0));
     let b = put_byte(room, a, by);
     put_name(room, b, slot)
 }
@@ -47,19 +47,12 @@ fn put_values(room: &mut [u8], at: usize, by: u8, r: Row) -> usize
 pub fn put_row(room: &mut [u8], at: usize, by: u8, r: Row) -> usize
     ensures { IsPrefixLen result room.new }
 {
-    let slot = r.slot;
-    let ura = r.ura;
-    let a = put_satellite(room, at, by, slot);
-    let b = put_next(room, a, by, r.iodn as u64);
-    let c = put_next(room, b, by, r.corr as u64);
+    let a = put_satellite(room, at, by, r.slot);
+    let b = put_next(room, a, by, u64::from(r.iodn));
+    let c = put_next(room, b, by, u64::from(r.corr));
     let d = put_values(room, c, by, r);
     let e = put_byte(room, d, by);
-    put_ura_mm(room, e, ura)
-}
-
-// A byte, or the separator for a blank.
-fn separated(by: u8, b: u8) -> u8 {
-    if b == b' ' { by } else { b }
+    put_ura_mm(room, e, r.ura)
 }
 
 // A text, each of its blanks the separator.
@@ -67,10 +60,8 @@ pub fn put_words(room: &mut [u8], at: usize, by: u8, text: &[u8]) -> usize
     ensures { IsPrefixLen result room.new }
 {
     let mut n = cursor_in(room, at);
-    let mut i: usize = 0;
-    while i < text.len() {
-        n = put_byte(room, n, separated(by, text[i]));
-        i += 1;
+    for &b in text {
+        n = put_byte(room, n, if b == b' ' { by } else { b });
     }
     n
 }

@@ -22,7 +22,7 @@ fn put_answer(rows: &mut [u8], n: usize, a: RowAnswer) -> usize
     ensures count { result ≡ n + found_count (row_says a) }
     ensures bytes { rows.new ≡ store_at rows.old (row_size * n) (answer_bytes (row_says a).1) }
 {
-    let RowAnswer::Found(r) = a else {
+    let Ok(r) = a else {
         return n;
     };
     put_row(rows, ROW_SIZE * n, r);
@@ -35,12 +35,10 @@ fn put_rows(ledger: &[u8], issues: &[u16], rows: &mut [u8])
     ensures { rows.new ≡ store_at rows.old 0 (rows_bytes (list_in ledger.now issues.now)) }
 {
     let mut n: usize = 0;
-    let mut i: usize = 0;
-    while i < 255 {
+    for i in 0..255 {
         let slot = (i + 1) as u8;
         let a = slot_row(ledger, Slot(slot), issues[i]);
         n = put_answer(rows, n, a);
-        i += 1;
     }
 }
 
@@ -66,9 +64,8 @@ pub fn rows(ledger: &[u8], issues: &[u16], rows: &mut [u8]) -> u8
     if rows.len() != ROWS_SIZE {
         return 39;
     }
-    let why = issues_refusal(issues);
-    if why != 0 {
-        return why;
+    if let Err(why) = issues_refusal(issues) {
+        return why.0;
     }
     fill_rows(ledger, issues, rows);
     0
@@ -87,10 +84,10 @@ pub fn row(ledger: &[u8], issues: &[u16], slot: u16, row: &mut [u8]) -> u8
     }
     let a = row_of_slot(ledger, issues, slot);
     match a {
-        RowAnswer::Found(r) => {
+        Ok(r) => {
             put_row(row, 0, r);
             0
         }
-        RowAnswer::Refused(n) => n,
+        Err(why) => why.0,
     }
 }

@@ -46,7 +46,7 @@ fn run_write(rt: &HostRuntime, i: usize, count: usize) -> u8
 {
     let mixed = is_arg(rt, i, b"-m");
     let at = behind_mixed(i, mixed);
-    if is_option(rt, at) | !has_words(at, count) {
+    if is_option(rt, at) || !has_words(at, count) {
         return usage(rt);
     }
     writing::run(rt, at, count, mixed)
@@ -56,7 +56,7 @@ fn run_write(rt: &HostRuntime, i: usize, count: usize) -> u8
 fn run_read(rt: &HostRuntime, i: usize, count: usize) -> u8
     requires { i ≤ 4 }
 {
-    if is_option(rt, i) | (count != i + 1) {
+    if is_option(rt, i) || count != i + 1 {
         return usage(rt);
     }
     showing::run(rt, i)
@@ -68,7 +68,7 @@ fn run_check(rt: &HostRuntime, i: usize, count: usize) -> u8
 {
     let mixed = is_arg(rt, i, b"-m");
     let at = behind_mixed(i, mixed);
-    if is_option(rt, at) | !has_words(at + 1, count) {
+    if is_option(rt, at) || !has_words(at + 1, count) {
         return usage(rt);
     }
     checking::run(rt, at, count, mixed)

@@ -19,7 +19,8 @@ use Rattle.list.specs.Rows.{row_in}
 use Rattle.sheet_form.specs.Reading.{wrong_at, header_said, rows_said}
 use Rattle.sheet_writing.specs.Writing.{most_sheet_rows}
 use Rattle.sheet_checking.specs.Checking.{checked_says, names, is_unknown, differs, row_refusal, row_refusal_after, offence_from, offence, rows_say, is_other, sheet_say, checked_answer}
-use Rattle.sheet_checking.specs.declared.Checked.TheVariants.{Wrong}
+use Rattle.std.specs.Prelude.{Err}
+use Rattle.sheet_checking.specs.declared.Fault.TheVariants.{Wrong}
 use Rattle.answers.specs.Detail.{detail_in}
 use Rattle.sheet_calls.specs.Sheet.{check_sheet_answer}
 use Rattle.sheet_calls.proofs.SheetLaws.{wrong_near}
@@ -53,7 +54,7 @@ rows_other s is rs none h = λ e. omega arith
 -- ---- the check by its cases
 module _ (s is t : List ℕ) where
   -- 23 beside an offset is what the sheet's form is refused with
-  says_form : (at : ℕ) → checked_says (Wrong at) ≡ checked_answer s is t → wrong_at most_sheet_rows false t ≡ some at
+  says_form : (at : ℕ) → checked_says (Err (Wrong at)) ≡ checked_answer s is t → wrong_at most_sheet_rows false t ≡ some at
   unfolding checked_answer
   says_form at e = go (eqb (issues_refusal is) 0) (mask_at s).has (wrong_at most_sheet_rows false t) e
     where
@@ -68,7 +69,7 @@ module _ (s is t : List ℕ) where
       go true false o q = absurd (let z = ap (λ (x : List ℕ). length x) q in omega arith)
       go false m o q = absurd (let z = ap (λ (x : List ℕ). length x) q in omega arith)
 
-  pub check_near : (at : ℕ) → checked_says (Wrong at) ≡ checked_answer s is t → at ≤ 8 + 24 * most_sheet_rows + 3
+  pub check_near : (at : ℕ) → checked_says (Err (Wrong at)) ≡ checked_answer s is t → at ≤ 8 + 24 * most_sheet_rows + 3
   check_near at e = wrong_near most_sheet_rows false t at (says_form at e)
 
   pub check_sheet_size : length s ≢ size → 39 ≡ check_sheet_answer s is t

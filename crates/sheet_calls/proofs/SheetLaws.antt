@@ -27,7 +27,8 @@ use Rattle.sheet_form.specs.Reading.{reaches, opens, header_ok, row_ok, end_ok, 
 use Rattle.sheet_form.specs.declared.Header.{Header}
 use Rattle.sheet_writing.specs.Writing.{most_sheet_rows, sheet_for, sheet_refusal, sheet_answer, sheet_room}
 use Rattle.sheet_reading.specs.Answer.{read_says, said_of, read_answer}
-use Rattle.sheet_reading.specs.declared.SheetRead.TheVariants.{Read, Wrong}
+use Rattle.std.specs.Prelude.{Ok}
+use Rattle.sheet_reading.proofs.ReadingLaws.{wrong}
 use Rattle.answers.specs.Size.{row_size, sheet_header_size}
 use Rattle.answers.specs.Sized.{sized, is_ledger}
 use Rattle.row_calls.specs.Rows.{rows_size, rows_bytes}
@@ -141,16 +142,16 @@ wrong_near limit rising s at e = go (header_ok limit s) refl e
     go true h q = let l = from_near rising s (two_at s 6) 0 8 at q in let m = rows_few limit s h in omega arith
     go false h q = let z : ◌≡◌ {A = ℕ} 0 at = cc in omega arith
 
-said_wrong : (s : List ℕ) (o : Option ℕ) (at : ℕ) → read_says (Wrong at) ≡ said_of s o → o ≡ some at
+said_wrong : (s : List ℕ) (o : Option ℕ) (at : ℕ) → read_says (wrong at) ≡ said_of s o → o ≡ some at
 said_wrong s (some b) at e = ap some (sym (ap (λ (x : List ℕ × Option Header). get_or x.0 1 0) e))
 said_wrong s none at e = absurd (let z = ap (λ (x : List ℕ × Option Header). length x.0) e in omega arith)
 
-pub answer_near : (limit : ℕ) (rising : Bool) (s : List ℕ) (at : ℕ) → read_says (Wrong at) ≡ read_answer limit rising s → at ≤ 8 + 24 * limit + 3
+pub answer_near : (limit : ℕ) (rising : Bool) (s : List ℕ) (at : ℕ) → read_says (wrong at) ≡ read_answer limit rising s → at ≤ 8 + 24 * limit + 3
 unfolding read_answer
 answer_near limit rising s at e = wrong_near limit rising s at (said_wrong s (wrong_at limit rising s) at e)
 
 -- ---- the reader by its cases
-said_read : (s : List ℕ) (o : Option ℕ) (h : Header) → read_says (Read h) ≡ said_of s o → h ≡ header_said s
+said_read : (s : List ℕ) (o : Option ℕ) (h : Header) → read_says (Ok h) ≡ said_of s o → h ≡ header_said s
 said_read s (some b) h e = absurd (let z = ap (λ (x : List ℕ × Option Header). length x.0) e in omega arith)
 said_read s none h e = let z : some h ≡ some (header_said s) = ap (λ (x : List ℕ × Option Header). x.1) e in cc
 
@@ -173,11 +174,11 @@ module _ (s header rows : List ℕ) where
     read_rows_size n = right_kept 39 (rw (eq-eqb _ _ fits, ne_eqb _ _ n)) (λ z. omega arith)
 
     module _ (long : length rows ≡ rows_size) where
-      pub read_wrong : (at : ℕ) → read_says (Wrong at) ≡ read_answer most_sheet_rows true s → RightRead (23 + 256 * at) header rows
+      pub read_wrong : (at : ℕ) → read_says (wrong at) ≡ read_answer most_sheet_rows true s → RightRead (23 + 256 * at) header rows
       unfolding read_sheet_answer
       read_wrong at e = right_kept (23 + 256 * at) (rw (eq-eqb _ _ fits, eq-eqb _ _ long, ← e) (omega arith)) (λ z. omega arith)
 
-      pub read_right : (h : Header) (t u : List ℕ) → read_says (Read h) ≡ read_answer most_sheet_rows true s →
+      pub read_right : (h : Header) (t u : List ℕ) → read_says (Ok h) ≡ read_answer most_sheet_rows true s →
           t ≡ store_at header 0 (header_bytes h) → u ≡ store_at (replicate (length rows) 0) 0 (rows_bytes (rows_said_from s h.rows 8)) → RightRead 0 t u
       unfolding read_sheet_answer read_sheet_header read_sheet_rows read_answer
       read_right h t u e a b =

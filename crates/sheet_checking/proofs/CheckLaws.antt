@@ -17,7 +17,10 @@ use Rattle.row.specs.declared.Row.{Row}
 use Rattle.list.specs.Rows.{row_in}
 use Rattle.sheet_form.specs.Reading.{row_said, rows_said_from}
 use Rattle.sheet_checking.specs.Same.{same_numbers}
-use Rattle.sheet_checking.specs.Checking.{names, row_refusal, row_refusal_after, offence_from}
+use Rattle.std.specs.Prelude.{Err}
+use Rattle.sheet_checking.specs.declared.Fault.{Fault}
+use Rattle.sheet_checking.specs.declared.Fault.TheVariants as fault
+use Rattle.sheet_checking.specs.Checking.{checked_says, refused_row, names, row_refusal, row_refusal_after, offence_from}
 
 -- ---- why a row is refused
 module _ (r : Row) (o : Option Row) (again : Bool) where
@@ -42,17 +45,22 @@ module _ (r : Row) (o : Option Row) (again : Bool) where
     unfolding row_refusal
     not_refused e a = rw (found, e, a)
 
--- a row that is refused is refused 24, 25 or 26
-pub refusal_range : (r : Row) (o : Option Row) (again : Bool) → row_refusal r o again ≢ 0 → (24 ≤ row_refusal r o again) × (row_refusal r o again ≤ 26)
-unfolding row_refusal
-refusal_range r none again n = (omega arith, omega arith)
-refusal_range r (some ours) again n = go (same_numbers r ours) again n
-  where
-    go : (b a : Bool) → first ((25, not b) ∷ (26, a) ∷ []) ≢ 0 → (24 ≤ first ((25, not b) ∷ (26, a) ∷ [])) × (first ((25, not b) ∷ (26, a) ∷ []) ≤ 26)
-    go true true m = (omega arith, omega arith)
-    go true false m = absurd (m refl)
-    go false true m = (omega arith, omega arith)
-    go false false m = (omega arith, omega arith)
+-- a row with nothing at fault is not refused
+pub no_fault : (n k : ℕ) → [] ≡ refused_row n k → n ≡ 0
+no_fault n k e =
+    dite (ℕ_discrete n 0) (λ z. z) (λ m. absurd (let l : length {A = ℕ} [] ≡ length (n ∷ k ∷ []) = rw (ne_eqb n 0 m) at (ap length e) in omega arith))
+
+-- and one with something at fault is
+pub some_fault : (f : Fault) → [] ≡ checked_says (Err f) → ⊥
+some_fault (fault.Number n) e = let l = ap length e in omega arith
+some_fault (fault.Wrong n) e = let l = ap length e in omega arith
+some_fault (fault.Unknown n) e = let l = ap length e in omega arith
+some_fault (fault.Other n) e = let l = ap length e in omega arith
+some_fault (fault.Repeated n) e = let l = ap length e in omega arith
+
+pub fault_said : (f : Fault) (n k : ℕ) → checked_says (Err f) ≡ refused_row n k → (n ≢ 0) × (checked_says (Err f) ≡ n ∷ k ∷ [])
+fault_said f n k e =
+    dite (ℕ_discrete n 0) (λ z. absurd (some_fault f (sym (e ∙ ap (λ (m : ℕ). refused_row m k) z)))) (λ m. (m, e ∙ rw (ne_eqb n 0 m)))
 
 -- ---- the slots seen
 -- one row more names its own slot
@@ -112,50 +120,41 @@ module _ (s is t : List ℕ) (earlier : List Row) where
   offence_end k zero at h = refl
   offence_end k (suc n) at h = absurd (not-suc-le-zero h)
 
--- ---- the walk over the rows: `left` of them from `at` on are still to be held against our list
-pub record Walked (s is t : List ℕ) (rows : ℕ) (seen : List Bool) (left at : ℕ) : Type 0 where
+-- ---- the walk over the rows: the first k are held against our list, the others are still to be
+pub record Walked (s is t : List ℕ) (rows : ℕ) (seen : List Bool) (k : ℕ) : Type 0 where
   pub earlier : List Row
-  pub near : at + 24 * left ≤ 1572848
-  pub most : left ≤ rows
   pub marked : Marked seen earlier
-  pub same : offence_from s is earlier (rows - left + 1) (rows_said_from t left at) ≡ offence_from s is [] 1 (rows_said_from t rows 8)
+  pub same : offence_from s is earlier (k + 1) (rows_said_from t (rows - k) (8 + 24 * k)) ≡ offence_from s is [] 1 (rows_said_from t rows 8)
 
 module _ (s is t : List ℕ) (rows : ℕ) where
   -- before the first row
-  pub walk_start : rows < 65536 → Walked s is t rows (replicate 256 false) rows 8
-  walk_start h = record {
-    earlier = [];
-    near = omega arith;
-    most = omega arith;
-    marked = none_marked;
-    same = let e : rows - rows + 1 ≡ 1 = omega arith in rw e;
-  }
+  pub walk_start : Walked s is t rows (replicate 256 false) 0
+  walk_start = record { earlier = []; marked = none_marked; same = let e : rows - 0 ≡ rows = omega arith in rw e }
 
-  module _ (seen : List Bool) (left at : ℕ) (w : Walked s is t rows seen left at) where
+  module _ (seen : List Bool) (k : ℕ) (w : Walked s is t rows seen k) where
     -- the row's refusal, by the flag of its slot
-    pub refusal_now : (r : Row) (why : ℕ) → r ≡ row_said t at → r.slot.0 < 256 →
-        why ≡ row_refusal r (row_in s is r.slot.0) (get_or seen r.slot.0 false) → why ≡ row_refusal_after s is w.earlier (row_said t at)
-    refusal_now r why e h q =
-        q ∙ ap (row_refusal r (row_in s is r.slot.0)) (w.marked.flag r.slot.0 h) ∙ ap (row_refusal_after s is w.earlier) e
+    pub refusal_now : (r : Row) → r ≡ row_said t (8 + 24 * k) → r.slot.0 < 256 →
+        row_refusal r (row_in s is r.slot.0) (get_or seen r.slot.0 false) ≡ row_refusal_after s is w.earlier (row_said t (8 + 24 * k))
+    refusal_now r e h =
+        ap (row_refusal r (row_in s is r.slot.0)) (w.marked.flag r.slot.0 h) ∙ ap (row_refusal_after s is w.earlier) e
 
     -- the row offends: it is the first of the sheet that does
-    pub walk_hit : (why : ℕ) → 0 < left → why ≡ row_refusal_after s is w.earlier (row_said t at) → why ≢ 0 →
-        offence_from s is [] 1 (rows_said_from t rows 8) ≡ some (why, rows - left + 1)
-    walk_hit why h e q = sym w.same ∙ offence_hit s is t w.earlier (rows - left + 1) left at why h e q
+    pub walk_hit : (why : ℕ) → k < rows → why ≡ row_refusal_after s is w.earlier (row_said t (8 + 24 * k)) → why ≢ 0 →
+        offence_from s is [] 1 (rows_said_from t rows 8) ≡ some (why, k + 1)
+    walk_hit why h e q = sym w.same ∙ offence_hit s is t w.earlier (k + 1) (rows - k) (8 + 24 * k) why (omega arith) e q
 
     -- the row does not: the walk goes on behind it
-    pub walk_next : (r : Row) → 0 < left → r ≡ row_said t at → r.slot.0 < 256 → row_refusal_after s is w.earlier (row_said t at) ≡ 0 →
-        Walked s is t rows (set seen r.slot.0 true) (left - 1) (at + 24)
+    pub walk_next : (r : Row) → k < rows → r ≡ row_said t (8 + 24 * k) → r.slot.0 < 256 →
+        row_refusal_after s is w.earlier (row_said t (8 + 24 * k)) ≡ 0 → Walked s is t rows (set seen r.slot.0 true) (k + 1)
     walk_next r h e l q = record {
       earlier = r ∷ w.earlier;
-      near = omega (arith, w.near);
-      most = omega (arith, w.most);
       marked = one_marked seen w.earlier r l w.marked;
       same =
-          let g : rows - (left - 1) + 1 ≡ rows - left + 1 + 1 = omega (arith, w.most) in
-          rw (g, e) (sym (offence_pass s is t w.earlier (rows - left + 1) left at h q) ∙ w.same);
+          let f : rows - k - 1 ≡ rows - (k + 1) = omega arith in
+          let g : 8 + 24 * k + 24 ≡ 8 + 24 * (k + 1) = omega arith in
+          rw (← f, ← g, e) (sym (offence_pass s is t w.earlier (k + 1) (rows - k) (8 + 24 * k) (omega arith) q) ∙ w.same);
     }
 
     -- no row is left: none of the sheet offends
-    pub walk_end : left ≤ 0 → offence_from s is [] 1 (rows_said_from t rows 8) ≡ none
-    walk_end h = sym w.same ∙ offence_end s is t w.earlier (rows - left + 1) left at h
+    pub walk_end : rows ≤ k → offence_from s is [] 1 (rows_said_from t rows 8) ≡ none
+    walk_end h = sym w.same ∙ offence_end s is t w.earlier (k + 1) (rows - k) (8 + 24 * k) (omega arith)

@@ -1,5 +1,5 @@
 -- 02, CR 10: what is answered to a partner's sheet, by what a ledger holds and the broadcast list.
-use Rattle.std.specs.Prelude.{ℕ, ◌+◌, Bool, true, false, not, ◌||◌, List, [], ◌∷◌, eqb, length}
+use Rattle.std.specs.Prelude.{ℕ, ◌+◌, Bool, true, false, not, ◌||◌, List, [], ◌∷◌, eqb, length, Result, Ok, Err}
 use Rattle.std.proofs.Math.Option.{Option, none, some}
 use Rattle.bits.specs.Pick.{pick}
 use Rattle.bits.specs.Some.{any_of, first}
@@ -13,18 +13,27 @@ use Rattle.sheet_form.specs.Reading.{wrong_at, header_said, rows_said}
 use Rattle.sheet_form.specs.declared.Header.{Header}
 use Rattle.sheet_writing.specs.Writing.{most_sheet_rows}
 use Rattle.sheet_checking.specs.Same.{same_numbers}
-use Rattle.sheet_checking.specs.declared.Checked.{Checked}
-use Rattle.sheet_checking.specs.declared.Checked.TheVariants as checked
+use Rattle.sheet_checking.specs.declared.Fault.{Fault}
+use Rattle.sheet_checking.specs.declared.Fault.TheVariants as fault
 
 -- 02, CR 10: the number and the values of each answer: accepted is 0 and how many of our rows were left out; a sheet that cannot be read is 23 and the
 -- offset; a row of an unknown slot is 24 and its number, one of other numbers 25, a repeated one 26; any other refusal is its number alone
-abbrev pub checked_says : Checked → List ℕ
-checked_says (checked.Accepted left) = 0 ∷ left ∷ []
-checked_says (checked.Refused n) = n ∷ []
-checked_says (checked.Wrong at) = 23 ∷ at ∷ []
-checked_says (checked.Unknown k) = 24 ∷ k ∷ []
-checked_says (checked.Other k) = 25 ∷ k ∷ []
-checked_says (checked.Repeated k) = 26 ∷ k ∷ []
+abbrev pub checked_says : Result ℕ Fault → List ℕ
+checked_says (Ok left) = 0 ∷ left ∷ []
+checked_says (Err (fault.Number n)) = n ∷ []
+checked_says (Err (fault.Wrong at)) = 23 ∷ at ∷ []
+checked_says (Err (fault.Unknown k)) = 24 ∷ k ∷ []
+checked_says (Err (fault.Other k)) = 25 ∷ k ∷ []
+checked_says (Err (fault.Repeated k)) = 26 ∷ k ∷ []
+
+-- the same of a row: nothing where it is not refused
+abbrev pub row_says : Result (Unit {0}) Fault → List ℕ
+row_says (Ok _) = []
+row_says (Err f) = checked_says (Err f)
+
+-- the refusal of row k, and its number
+abbrev pub refused_row : ℕ → ℕ → List ℕ
+refused_row n k = pick (eqb n 0) [] (n ∷ k ∷ [])
 
 -- a row is that of a slot
 abbrev pub is_of : ℕ → Row → List Row → Bool

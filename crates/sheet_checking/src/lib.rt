@@ -1,32 +1,50 @@
 // Checking a partner's sheet against a ledger and a broadcast list: 02, CR 10.
 #![tactic(auto)]
 
-ghost use Rattle.std.specs.Prelude.{◌≡◌, ◌≤◌, [], ◌∷◌, length};
+ghost use Rattle.std.specs.Prelude.{◌≡◌, length};
 ghost use Rattle.lent.specs.Digits.{two_at};
 ghost use Rattle.broadcast.specs.Issues.{issue_of};
 ghost use Rattle.list.specs.Rows.{row_in, list_in};
 ghost use Rattle.sheet_form.specs.Reading.{rows_said};
-ghost use Rattle.sheet_checking.specs.Same.{same_number_of, same_ura, same_numbers};
-ghost use Rattle.sheet_checking.specs.Checking.{checked_says, row_refusal, offence, rows_say, is_other, checked_answer};
+ghost use Rattle.sheet_checking.specs.Same.{same_ura, same_numbers};
+ghost use Rattle.sheet_checking.specs.declared.Fault.TheVariants as fault;
+ghost use Rattle.sheet_checking.specs.Checking.{checked_says, row_says, refused_row, row_refusal, offence, rows_say, is_other, checked_answer};
 
-use list::rows::{Count, row_count};
-use row::{Row, RowAnswer, slot_row};
+use list::rows::row_count;
+use row::{Row, slot_row};
 use sheet_form::Header;
-use sheet_reading::{SheetRead, read_sheet, row_said};
+use sheet_reading::{Wrong, read_sheet, row_said};
 use sheet_writing::MOST_ROWS;
-use slots::Slot;
 use ura::{Ura, ura_kind, ura_quarters};
+use verdict::Refused;
 
-// How many of our rows an accepted sheet left out, a refusal number, the offset of refusal 23, or the number of a row that has an unknown slot, other
-// numbers, or a slot that an earlier row has.
-#[derive(Clone, Copy)]
-pub enum Checked {
-    Accepted(u16),
-    Refused(u8),
+// A refusal number, the offset of refusal 23, or the number of a row that has an unknown slot, other numbers, or a slot that an earlier row has.
+#[derive(Clone, Copy, PartialEq, Eq)]
+pub enum Fault {
+    Number(u8),
     Wrong(u32),
     Unknown(u16),
     Other(u16),
     Repeated(u16),
+}
+
+// How many of our rows an accepted sheet left out, or what is at fault.
+pub type Checked = Result<u16, Fault>;
+
+impl From<Refused> for Fault {
+    ghost from_gives = { λ r f. f ≡ fault.Number r.0 };
+
+    fn from(r: Refused) -> Fault {
+        Fault::Number(r.0)
+    }
+}
+
+impl From<Wrong> for Fault {
+    ghost from_gives = { λ w f. f ≡ fault.Wrong w.0 };
+
+    fn from(w: Wrong) -> Fault {
+        Fault::Wrong(w.0)
+    }
 }
 
 // The broadcast issue of a slot; entries past the end are 0.
@@ -35,13 +53,6 @@ fn issue_of(issues: &[u16], slot: u8) -> u16
 {
     let i = if slot == 0 { 0 } else { slot as usize - 1 };
     if i < issues.len() { issues[i] } else { 0 }
-}
-
-// Whether two values are equal.
-fn same_number(x: i32, y: i32) -> bool
-    ensures { result ≡ same_number_of x y }
-{
-    x == y
 }
 
 // Whether two accuracy indices are equal.
@@ -55,45 +66,30 @@ fn same_ura(u: Ura, v: Ura) -> bool
 fn same_numbers(a: Row, b: Row) -> bool
     ensures { result ≡ same_numbers a b }
 {
-    let u = a.ura;
-    let v = b.ura;
     (a.iodn == b.iodn)
         & (a.corr == b.corr)
-        & same_number(a.radial, b.radial)
-        & same_number(a.along, b.along)
-        & same_number(a.cross, b.cross)
-        & same_number(a.clock, b.clock)
-        & same_ura(u, v)
+        & (a.radial == b.radial)
+        & (a.along == b.along)
+        & (a.cross == b.cross)
+        & (a.clock == b.clock)
+        & same_ura(a.ura, b.ura)
 }
 
-// Why a row of a sheet is refused: 24, 25, or 26 where its slot came before; 0 if it is not.
-fn row_refusal(ledger: &[u8], issues: &[u16], row: Row, again: bool) -> u8
-    ensures { result ≡ row_refusal row (row_in ledger.now issues.now row.slot.0) again }
+// What is at fault with row k of a sheet: 24, 25, or 26 where its slot came before.
+fn row_fault(ledger: &[u8], issues: &[u16], row: Row, again: bool, k: u16) -> Result<(), Fault>
+    ensures { row_says result ≡ refused_row (row_refusal row (row_in ledger.now issues.now row.slot.0) again) k }
 {
-    let slot = row.slot;
-    let issue = issue_of(issues, slot.0);
-    let RowAnswer::Found(ours) = slot_row(ledger, slot, issue) else {
-        return 24;
+    let issue = issue_of(issues, row.slot.0);
+    let Ok(ours) = slot_row(ledger, row.slot, issue) else {
+        return Err(Fault::Unknown(k));
     };
     if !same_numbers(row, ours) {
-        return 25;
+        return Err(Fault::Other(k));
     }
     if again {
-        return 26;
+        return Err(Fault::Repeated(k));
     }
-    0
-}
-
-// The answer for an offending row, by its refusal.
-fn offending(why: u8, k: u16) -> Checked
-    requires { (24 ≤ why) × (why ≤ 26) }
-    ensures { checked_says result ≡ why ∷ k ∷ [] }
-{
-    match why {
-        24 => Checked::Unknown(k),
-        25 => Checked::Other(k),
-        _ => Checked::Repeated(k),
-    }
+    Ok(())
 }
 
 // The rows of a sheet are held against our list, which has so many rows.
@@ -104,21 +100,13 @@ fn check_rows(ledger: &[u8], issues: &[u16], sheet: &[u8], rows: u16, ours: u16)
         (offence ledger.now issues.now (rows_said sheet.now)) }
 {
     let mut seen = [false; 256];
-    let mut left = rows;
-    let mut at: u32 = 8;
-    while 0 < left {
-        let row = row_said(sheet, at);
-        let slot = row.slot;
-        let i = slot.0 as usize;
-        let why = row_refusal(ledger, issues, row, seen[i]);
-        if why != 0 {
-            return offending(why, rows - left + 1);
-        }
+    for k in 0..rows {
+        let row = row_said(sheet, 8 + 24 * k as u32);
+        let i = row.slot.0 as usize;
+        row_fault(ledger, issues, row, seen[i], k + 1)?;
         seen[i] = true;
-        at += 24;
-        left -= 1;
     }
-    Checked::Accepted(ours - rows)
+    Ok(ours - rows)
 }
 
 // Whether PRN, SSR or IODP differ from the ledger's.
@@ -134,21 +122,13 @@ fn is_other(ledger: &[u8], header: Header) -> bool
 pub fn check_sheet(ledger: &[u8], issues: &[u16], sheet: &[u8]) -> Checked
     ensures { checked_says result ≡ checked_answer ledger.now issues.now sheet.now }
 {
-    let count = row_count(ledger, issues);
-    let ours = match count {
-        Count::Refused(why) => return Checked::Refused(why),
-        Count::Rows(n) => n,
-    };
+    let ours = row_count(ledger, issues)?;
     if !held_mask::has_mask(ledger) {
-        return Checked::Refused(20);
+        return Err(Fault::Number(20));
     }
-    let read = read_sheet(sheet, MOST_ROWS, false);
-    let header = match read {
-        SheetRead::Wrong(at) => return Checked::Wrong(at),
-        SheetRead::Read(h) => h,
-    };
+    let header = read_sheet(sheet, MOST_ROWS, false)?;
     if is_other(ledger, header) {
-        return Checked::Refused(27);
+        return Err(Fault::Number(27));
     }
     check_rows(ledger, issues, sheet, header.rows, ours)
 }

@@ -23,8 +23,7 @@ pub const END_SIZE: usize = 3;
 fn header_bytes(h: Header) -> [u8; HEADER_SIZE]
     ensures { result ≡ header_field h }
 {
-    let hi = (h.rows / 256) as u8;
-    let lo = (h.rows % 256) as u8;
+    let [hi, lo] = h.rows.to_be_bytes();
     [1, 0, 5, h.prn, h.ssr, h.iodp, hi, lo]
 }
 
@@ -34,36 +33,15 @@ fn row_bytes(r: Row) -> [u8; ROW_SIZE]
 {
     let slot = r.slot;
     let u = r.ura;
-    let ra = raw32(r.radial);
-    let al = raw32(r.along);
-    let cr = raw32(r.cross);
-    let ck = raw32(r.clock);
+    let [n0, n1] = r.iodn.to_be_bytes();
+    let [r0, r1, r2, r3] = raw32(r.radial).to_be_bytes();
+    let [a0, a1, a2, a3] = raw32(r.along).to_be_bytes();
+    let [c0, c1, c2, c3] = raw32(r.cross).to_be_bytes();
+    let [k0, k1, k2, k3] = raw32(r.clock).to_be_bytes();
     let code = code_of(u);
     [
-        2,
-        0,
-        21,
-        slot.0,
-        (r.iodn / 256) as u8,
-        (r.iodn % 256) as u8,
-        r.corr,
-        (ra / 65536 / 256) as u8,
-        (ra / 65536 % 256) as u8,
-        (ra % 65536 / 256) as u8,
-        (ra % 65536 % 256) as u8,
-        (al / 65536 / 256) as u8,
-        (al / 65536 % 256) as u8,
-        (al % 65536 / 256) as u8,
-        (al % 65536 % 256) as u8,
-        (cr / 65536 / 256) as u8,
-        (cr / 65536 % 256) as u8,
-        (cr % 65536 / 256) as u8,
-        (cr % 65536 % 256) as u8,
-        (ck / 65536 / 256) as u8,
-        (ck / 65536 % 256) as u8,
-        (ck % 65536 / 256) as u8,
-        (ck % 65536 % 256) as u8,
-        code,
+        2, 0, 21, slot.0, n0, n1, r.corr, r0, r1, r2, r3, a0, a1, a2, a3, c0, c1, c2, c3, k0, k1,
+        k2, k3, code,
     ]
 }
 
@@ -71,16 +49,14 @@ fn row_bytes(r: Row) -> [u8; ROW_SIZE]
 pub fn put_header(room: &mut [u8], h: Header)
     ensures { room.new ≡ store_at room.old 0 (header_field h) }
 {
-    let b = header_bytes(h);
-    lent::store(room, 0, &b);
+    lent::store(room, 0, &header_bytes(h));
 }
 
 // A row's field is put; bytes past the end are lost.
 pub fn put_row(room: &mut [u8], r: Row)
     ensures { room.new ≡ store_at room.old 0 (row_field r) }
 {
-    let b = row_bytes(r);
-    lent::store(room, 0, &b);
+    lent::store(room, 0, &row_bytes(r));
 }
 
 // The end's field is put; bytes past the end are lost.

@@ -11,8 +11,7 @@ use Rattle.row.specs.declared.Row.{Row}
 use Rattle.sheet_form.specs.Reading.{row_said, rows_said_from, rows_said}
 use Rattle.sheet_reader.specs.Walk.{first_row, rows_end, next_says, next_found, place_after, Gives, AllGiven}
 use Rattle.sheet_reader.specs.Walk.Gives.{done, found}
-use Rattle.sheet_reader.specs.declared.NextRow.{NextRow}
-use Rattle.sheet_reader.specs.declared.NextRow.TheVariants.{Found, Done}
+use Rattle.std.specs.Prelude as std
 
 module _ (s : List ℕ) (at : ℕ) where
   -- a row is due: what it says is found
@@ -66,8 +65,8 @@ all_given s =
     record { given = g; no_other = λ rs h. gives_once s h g }
 
 -- answers that say the same are the same: a promise of what is said admits a single answer
-pub next_once : (a b : NextRow) → next_says a ≡ next_says b → a ≡ b
-next_once (Found r) (Found q) e = cc
-next_once (Found r) Done e = let z : ◌≡◌ {A = ℕ} 0 1 = cc in absurd (omega arith)
-next_once Done (Found r) e = let z : ◌≡◌ {A = ℕ} 0 1 = cc in absurd (omega arith)
-next_once Done Done e = refl
+pub next_once : (a b : std.Option Row) → next_says a ≡ next_says b → a ≡ b
+next_once (std.Some r) (std.Some q) e = cc
+next_once (std.Some r) std.None e = let z : ◌≡◌ {A = ℕ} 0 1 = cc in absurd (omega arith)
+next_once std.None (std.Some r) e = let z : ◌≡◌ {A = ℕ} 0 1 = cc in absurd (omega arith)
+next_once std.None std.None e = refl

@@ -4,8 +4,7 @@ use Rattle.std.proofs.Math.Option.{Option, none, some}
 use Rattle.bits.specs.Pick.{pick}
 use Rattle.row.specs.declared.Row.{Row}
 use Rattle.sheet_form.specs.Reading.{header_said, row_said, rows_said}
-use Rattle.sheet_reader.specs.declared.NextRow.{NextRow}
-use Rattle.sheet_reader.specs.declared.NextRow.TheVariants.{Found, Done}
+use Rattle.std.specs.Prelude as std
 
 -- 02, CR 7: the first row stands behind the header's 8 bytes
 abbrev pub first_row : ℕ
@@ -16,9 +15,9 @@ abbrev pub rows_end : List ℕ → ℕ
 rows_end s = first_row + 24 * (header_said s).rows
 
 -- what each answer says: a row, or none; 01 and 02 have no number for either
-abbrev pub next_says : NextRow → Option Row
-next_says (Found r) = some r
-next_says Done = none
+abbrev pub next_says : std.Option Row → Option Row
+next_says (std.Some r) = some r
+next_says std.None = none
 
 -- 02, CR 7: what a reader finds at a place: what the row there says, or none where the rows are over
 unfoldable pub next_found : List ℕ → ℕ → Option Row

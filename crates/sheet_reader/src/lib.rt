@@ -17,13 +17,6 @@ pub struct SheetReader<'a> {
     pub at: u32,
 }
 
-// The row at the reader's place, or done: no row is left.
-#[derive(Clone, Copy)]
-pub enum NextRow {
-    Found(Row),
-    Done,
-}
-
 // The place behind the last row that the header counts.
 fn rows_end(sheet: &[u8]) -> u32
     ensures { result ≡ rows_end sheet.now }
@@ -32,14 +25,14 @@ fn rows_end(sheet: &[u8]) -> u32
     FIRST_ROW + 24 * rows
 }
 
-// What a reader finds at a place.
-fn found_at(sheet: &[u8], at: u32) -> NextRow
+// What a reader finds at a place: a row, or none where the rows are over.
+fn found_at(sheet: &[u8], at: u32) -> Option<Row>
     ensures { next_says result ≡ next_found sheet.now at }
 {
     if rows_end(sheet) <= at {
-        return NextRow::Done;
+        return None;
     }
-    NextRow::Found(row_said(sheet, at))
+    Some(row_said(sheet, at))
 }
 
 // The place of the next row; where no row is left, the same place.
@@ -57,7 +50,7 @@ pub fn reader_at<'a>(sheet: &'a [u8], at: u32) -> SheetReader<'a>
 }
 
 // A reader is asked for the next row.
-pub fn next<'a>(r: SheetReader<'a>) -> NextRow
+pub fn next<'a>(r: SheetReader<'a>) -> Option<Row>
     ensures { next_says result ≡ next_found r.entry.sheet.now r.entry.at }
 {
     found_at(r.sheet, r.at)
@@ -72,7 +65,7 @@ pub fn moved_on<'a>(r: SheetReader<'a>) -> SheetReader<'a>
 }
 
 // The next row for a reader at a place. Who calls this, or `next_place`, need not hold a reader.
-pub fn next_row(sheet: &[u8], at: u32) -> NextRow
+pub fn next_row(sheet: &[u8], at: u32) -> Option<Row>
     ensures { next_says result ≡ next_found sheet.now at }
 {
     next(reader_at(sheet, at))

@@ -13,8 +13,8 @@ use lib.ListN.{length, get_or}
 use Rattle.sheet_form.specs.Reading.{header_ok, row_ok, end_ok, wrong_from, wrong_at, header_said}
 use Rattle.sheet_form.specs.declared.Header.{Header}
 use Rattle.sheet_reading.specs.Answer.{read_says, said_of, read_answer}
-use Rattle.sheet_reading.specs.declared.SheetRead.{SheetRead}
-use Rattle.sheet_reading.specs.declared.SheetRead.TheVariants.{Read, Wrong}
+use Rattle.std.specs.Prelude.{Result, Ok, Err}
+use Rattle.sheet_reading.specs.declared.Wrong.{Wrong}
 
 module _ (rising : Bool) (s : List ℕ) where
   -- a row that is cut short is wrong
@@ -58,6 +58,10 @@ module _ (rising : Bool) (s : List ℕ) where
   right_end zero before at h e l = rw (e, eq-eqb (length s) (at + 3) l)
   right_end (suc n) before at h e l = absurd (not-suc-le-zero h)
 
+-- wrong at an offset
+abbrev pub wrong : ℕ → Result Header Wrong
+wrong at = Err (record { 0 = at })
+
 module _ (limit : ℕ) (rising : Bool) (s : List ℕ) where
   -- the header is wrong
   pub wrong_header : header_ok limit s ≡ false → wrong_at limit rising s ≡ some 0
@@ -70,43 +74,43 @@ module _ (limit : ℕ) (rising : Bool) (s : List ℕ) where
   right_header h e q = rw (e, q)
 
   -- what the reader says of a sheet that is wrong somewhere
-  pub says_wrong : (at : ℕ) → wrong_at limit rising s ≡ some at → read_says (Wrong at) ≡ read_answer limit rising s
+  pub says_wrong : (at : ℕ) → wrong_at limit rising s ≡ some at → read_says (wrong at) ≡ read_answer limit rising s
   unfolding read_answer
   says_wrong at e = sym (ap (said_of s) e)
 
   -- what it says of one that is read
-  pub says_read : (h : Header) → wrong_at limit rising s ≡ none → h ≡ header_said s → read_says (Read h) ≡ read_answer limit rising s
+  pub says_read : (h : Header) → wrong_at limit rising s ≡ none → h ≡ header_said s → read_says (Ok h) ≡ read_answer limit rising s
   unfolding read_answer
   says_read h e q = rw (e, q)
 
   -- an offset was said: the sheet is wrong there
-  pub read_wrong : (at : ℕ) → read_says (Wrong at) ≡ read_answer limit rising s → wrong_at limit rising s ≡ some at
+  pub read_wrong : (w : Wrong) → read_says (Err w) ≡ read_answer limit rising s → wrong_at limit rising s ≡ some w.0
   unfolding read_answer
-  read_wrong at e = go (wrong_at limit rising s) e
+  read_wrong w e = go (wrong_at limit rising s) e
     where
-      go : (o : Option ℕ) → read_says (Wrong at) ≡ said_of s o → o ≡ some at
+      go : (o : Option ℕ) → read_says (Err w) ≡ said_of s o → o ≡ some w.0
       go (some b) q = ap some (ap (λ (x : List ℕ × Option Header). get_or x.0 1 0) (sym q))
       go none q = absurd (let l = ap (λ (x : List ℕ × Option Header). length x.0) q in omega arith)
 
   -- a header was said: the sheet is read
-  pub read_right : (h : Header) → read_says (Read h) ≡ read_answer limit rising s → (wrong_at limit rising s ≡ none) × (h ≡ header_said s)
+  pub read_right : (h : Header) → read_says (Ok h) ≡ read_answer limit rising s → (wrong_at limit rising s ≡ none) × (h ≡ header_said s)
   unfolding read_answer
   read_right h e = go (wrong_at limit rising s) e
     where
-      go : (o : Option ℕ) → read_says (Read h) ≡ said_of s o → (o ≡ none) × (h ≡ header_said s)
+      go : (o : Option ℕ) → read_says (Ok h) ≡ said_of s o → (o ≡ none) × (h ≡ header_said s)
       go (some b) q = absurd (let l = ap (λ (x : List ℕ × Option Header). length x.0) q in omega arith)
       go none q = let g : some h ≡ some (header_said s) = ap (λ (x : List ℕ × Option Header). x.1) q in (refl, cc)
 
 -- the answer that says this
-back : List ℕ → Option Header → SheetRead
-back said (some h) = Read h
-back said none = Wrong (get_or said 1 0)
+back : List ℕ → Option Header → Result Header Wrong
+back said (some h) = Ok h
+back said none = wrong (get_or said 1 0)
 
-back_says : (a : SheetRead) → back (read_says a).0 (read_says a).1 ≡ a
+back_says : (a : Result Header Wrong) → back (read_says a).0 (read_says a).1 ≡ a
 unfolding back
-back_says (Read h) = refl
-back_says (Wrong at) = refl
+back_says (Ok h) = refl
+back_says (Err w) = refl
 
 -- answers that say the same are the same: a promise of what is said admits a single answer
-pub read_once : (a b : SheetRead) → read_says a ≡ read_says b → a ≡ b
+pub read_once : (a b : Result Header Wrong) → read_says a ≡ read_says b → a ≡ b
 read_once a b e = sym (back_says a) ∙ ap (λ (x : List ℕ × Option Header). back x.0 x.1) e ∙ back_says b

@@ -11,13 +11,14 @@ ghost use Rattle.sheet_reading.specs.Answer.{read_says, read_answer};
 use row::Row;
 use sheet_form::Header;
 use slots::Slot;
+use std::array;
 
-// The header of a sheet that is read, or the offset of refusal 23.
-#[derive(Clone, Copy)]
-pub enum SheetRead {
-    Read(Header),
-    Wrong(u32),
-}
+// The offset of refusal 23.
+#[derive(Clone, Copy, PartialEq, Eq)]
+pub struct Wrong(pub u32);
+
+// The header of a sheet that is read, or where it is wrong.
+pub type SheetRead = Result<Header, Wrong>;
 
 // The number of two bytes that are there.
 fn two_in(s: &[u8], at: usize) -> u16
@@ -147,28 +148,25 @@ pub fn read_sheet(sheet: &[u8], limit: u16, rising: bool) -> SheetRead
     ensures { read_says result ≡ read_answer limit rising sheet.now }
 {
     if !header_ok(sheet, limit) {
-        return SheetRead::Wrong(0);
+        return Err(Wrong(0));
     }
     let header = header_said(sheet);
-    let mut left = header.rows;
     let mut before: u8 = 0;
-    let mut at: u32 = 8;
-    while 0 < left {
+    for k in 0..header.rows {
+        let at = 8 + 24 * k as u32;
         if !row_ok(sheet, rising, before, at) {
-            return SheetRead::Wrong(at);
+            return Err(Wrong(at));
         }
         before = sheet[at as usize + 3];
-        at += 24;
-        left -= 1;
     }
-    let end = at;
+    let end = 8 + 24 * header.rows as u32;
     if !end_ok(sheet, end) {
-        return SheetRead::Wrong(end);
+        return Err(Wrong(end));
     }
     if sheet.len() != end as usize + 3 {
-        return SheetRead::Wrong(end + 3);
+        return Err(Wrong(end + 3));
     }
-    SheetRead::Read(header)
+    Ok(header)
 }
 
 // The number that 32 bits say in two's complement.
@@ -224,14 +222,7 @@ fn row_in(s: &[u8], at: usize) -> Row
 fn padded(s: &[u8], at: u32) -> [u8; 24]
     ensures { result ≡ row_at s.now at 24 }
 {
-    let a = at as usize;
-    let mut out = [0u8; 24];
-    let mut i: usize = 0;
-    while i < 24 {
-        out[i] = lent::byte(s, a + i);
-        i += 1;
-    }
-    out
+    array::from_fn(|i| lent::byte(s, at as usize + i))
 }
 
 // The row whose field begins at an offset; bytes past the end are 0. The next row's field begins 24 bytes further.

@@ -10,7 +10,7 @@ ghost use Rattle.sheet_calls.specs.Sheet.{header_bytes, read_sheet_answer, read_
 use answers::{ROW_SIZE, ROWS_SIZE};
 use flat_forms::put_row;
 use sheet_form::Header;
-use sheet_reading::{SheetRead, read_sheet, row_said};
+use sheet_reading::{Wrong, read_sheet, row_said};
 use sheet_writing::MOST_ROWS;
 
 // The bytes of what a sheet's header says.
@@ -56,8 +56,8 @@ pub fn read_into(sheet: &[u8], header: &mut [u8], rows: &mut [u8]) -> u32
     }
     let a = read_sheet(sheet, MOST_ROWS, true);
     match a {
-        SheetRead::Wrong(at) => 23 + 256 * at,
-        SheetRead::Read(h) => {
+        Err(Wrong(at)) => 23 + 256 * at,
+        Ok(h) => {
             put_header(header, h);
             lent::clear(rows);
             put_rows(rows, sheet, h.rows);

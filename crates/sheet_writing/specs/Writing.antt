@@ -1,5 +1,5 @@
 -- 02, CR 7: what the writer of a sheet answers, and what the lent room then holds.
-use Rattle.std.specs.Prelude.{ℕ, not, List, [], ◌∷◌, eqb, ltb, length}
+use Rattle.std.specs.Prelude.{ℕ, not, List, [], ◌∷◌, eqb, ltb, length, Result, Ok, Err}
 use Rattle.std.proofs.Math.Option.{Option, none, some}
 use Rattle.bits.specs.Pick.{pick}
 use Rattle.bits.specs.Some.{first}
@@ -10,17 +10,16 @@ use Rattle.broadcast.specs.Issues.{issues_refusal}
 use Rattle.list.specs.Rows.{list_in, most_rows}
 use Rattle.sheet_form.specs.Layout.{sheet_of, sheet_length}
 use Rattle.sheet_form.specs.declared.Header.{Header}
-use Rattle.sheet_writing.specs.declared.Sheet.{Sheet}
-use Rattle.sheet_writing.specs.declared.Sheet.TheVariants.{Written, Refused}
+use Rattle.verdict.specs.declared.Refused.{Refused}
 
 -- 02, CR 11: at most as many rows as slots have a satellite
 abbrev pub most_sheet_rows : ℕ
 most_sheet_rows = most_rows
 
 -- 02, CR 7: the number and the value of each answer; a sheet that is written is 0 and its length, a refusal its number alone
-abbrev pub sheet_says : Sheet → ℕ × Option ℕ
-sheet_says (Written n) = (0, some n)
-sheet_says (Refused n) = (n, none)
+abbrev pub sheet_says : Result ℕ Refused → ℕ × Option ℕ
+sheet_says (Ok n) = (0, some n)
+sheet_says (Err n) = (n.0, none)
 
 -- 02, CR 7: the header of a ledger's list of n rows: the ledger's PRN, IOD SSR and IODP of the mask in force, and how many rows
 abbrev pub header_of : List ℕ → ℕ → Header

@@ -9,21 +9,18 @@ ghost use Rattle.sheet_form.specs.Layout.{row_fields, sheet_of, sheet_length};
 ghost use Rattle.sheet_writing.specs.Writing.{sheet_says, sheet_answer, sheet_room, header_of};
 
 use held_mask::{has_mask, mask_iodp, mask_ssr};
-use list::rows::{Count, row_count};
-use row::{RowAnswer, slot_row};
+use list::rows::row_count;
+use row::slot_row;
 use sheet_fields::{END_SIZE, HEADER_SIZE, ROW_SIZE, put_end, put_header, put_row};
 use sheet_form::Header;
 use slots::Slot;
+use verdict::Refused;
 
 // The most rows of a sheet: as many as slots have a satellite. No list has more.
 pub const MOST_ROWS: u16 = 174;
 
 // The length of the sheet that was written, or one of the refusal numbers.
-#[derive(Clone, Copy)]
-pub enum Sheet {
-    Written(u16),
-    Refused(u8),
-}
+pub type Sheet = Result<u16, Refused>;
 
 // The fields of the rows are put behind the header, one for each slot that qualifies; says where the end is to stand.
 fn put_rows(room: &mut [u8], ledger: &[u8], issues: &[u16]) -> usize
@@ -32,12 +29,10 @@ fn put_rows(room: &mut [u8], ledger: &[u8], issues: &[u16]) -> usize
     ensures bytes { room.new ≡ store_at room.old 8 (row_fields (list_in ledger.now issues.now)) }
 {
     let mut at = HEADER_SIZE;
-    let mut i: usize = 0;
-    while i < 255 {
+    for i in 0..255 {
         let slot = (i + 1) as u8;
         let a = slot_row(ledger, Slot(slot), issues[i]);
-        i += 1;
-        let RowAnswer::Found(row) = a else {
+        let Ok(row) = a else {
             continue;
         };
         put_row(&mut room[at..], row);
@@ -78,15 +73,15 @@ fn write_list(room: &mut [u8], ledger: &[u8], issues: &[u16], n: u16) -> Sheet
     ensures bytes { room.new ≡ sheet_room ledger.now issues.now room.old }
 {
     if !has_mask(ledger) {
-        return Sheet::Refused(20);
+        return Err(Refused(20));
     }
     let size = HEADER_SIZE + ROW_SIZE * (n as usize) + END_SIZE;
     if room.len() < size {
-        return Sheet::Refused(22);
+        return Err(Refused(22));
     }
     let h = header_of(ledger, n);
     put_sheet(room, ledger, issues, h);
-    Sheet::Written(size as u16)
+    Ok(size as u16)
 }
 
 // The sheet of a ledger's list is put into the room: refusals 1, 17, 20, 22, in this order. Room past the sheet, and all room on a refusal, is as it
@@ -95,9 +90,6 @@ pub fn write_sheet(room: &mut [u8], ledger: &[u8], issues: &[u16]) -> Sheet
     ensures answer { sheet_says result ≡ sheet_answer ledger.now issues.now room.old }
     ensures bytes { room.new ≡ sheet_room ledger.now issues.now room.old }
 {
-    let count = row_count(ledger, issues);
-    match count {
-        Count::Rows(n) => write_list(room, ledger, issues, n),
-        Count::Refused(why) => Sheet::Refused(why),
-    }
+    let n = row_count(ledger, issues)?;
+    write_list(room, ledger, issues, n)
 }

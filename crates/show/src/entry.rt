@@ -1,56 +1,11 @@
-// An entry of a line: a record, a satellite, a bias, a slot or an accuracy index.
+// The entries of a line: slots, records, satellites, biases and accuracy indices.
 ghost use Rattle.io.specs.Counts.{IsPrefixLen};
 
+use biases::{Bias, BiasSat};
 use console::put::{cursor_in, put_byte, put_bytes, put_signed, put_ura};
-use ura::Ura;
-
-// So many values, the first after a separator and the others after strokes, then an accuracy index after one of its own, which is 0 where there is
-// none; or a blank entry.
-#[derive(Clone, Copy)]
-pub(crate) struct Entry {
-    pub blank: bool,
-    pub before: u8,
-    pub count: u8,
-    pub values: [i32; 6],
-    pub last: u8,
-    pub ura: Ura,
-}
-
-// An entry of values.
-pub(crate) fn entry_of(before: u8, count: u8, values: [i32; 6]) -> Entry {
-    Entry {
-        blank: false,
-        before,
-        count,
-        values,
-        last: 0,
-        ura: Ura::Unknown,
-    }
-}
-
-// No entry.
-pub(crate) fn nothing() -> Entry {
-    entry_of(0, 0, [0; 6])
-}
-
-// A blank entry.
-pub(crate) fn blank() -> Entry {
-    let mut e = nothing();
-    e.blank = true;
-    e
-}
-
-// An entry of values after a blank, with an accuracy index behind them.
-pub(crate) fn with_ura(count: u8, values: [i32; 6], last: u8, ura: Ura) -> Entry {
-    Entry {
-        blank: false,
-        before: b' ',
-        count,
-        values,
-        last,
-        ura,
-    }
-}
+use records::clock::Clock;
+use records::orbit::Orbit;
+use ura::{Ura, ura_of};
 
 // A value after a separator.
 fn put_value(room: &mut [u8], at: usize, separator: u8, x: i32) -> usize
@@ -60,42 +15,92 @@ fn put_value(room: &mut [u8], at: usize, separator: u8, x: i32) -> usize
     put_signed(room, a, x)
 }
 
-// Values, so many.
-fn put_values(room: &mut [u8], at: usize, first: u8, count: u8, values: [i32; 6]) -> usize
+// Values, the first after a separator and the others after strokes.
+fn put_values(room: &mut [u8], at: usize, first: u8, values: &[i32]) -> usize
     ensures { IsPrefixLen result room.new }
 {
-    let most = count as usize;
     let mut n = cursor_in(room, at);
     let mut separator = first;
-    let mut i: usize = 0;
-    while i < 6 && i < most {
-        n = put_value(room, n, separator, values[i]);
+    for &x in values {
+        n = put_value(room, n, separator, x);
         separator = b'/';
-        i += 1;
     }
     n
 }
 
-// An accuracy index after a separator, if there is one.
-fn put_last(room: &mut [u8], at: usize, separator: u8, u: Ura) -> usize
+// An accuracy index after a separator.
+fn put_index(room: &mut [u8], at: usize, separator: u8, u: Ura) -> usize
     ensures { IsPrefixLen result room.new }
 {
-    if separator == 0 {
-        return cursor_in(room, at);
-    }
     let a = put_byte(room, at, separator);
     put_ura(room, a, u)
 }
 
-// An entry.
-pub(crate) fn put_entry(room: &mut [u8], at: usize, e: Entry) -> usize
+// A slot, or a dash for a blank.
+pub(crate) fn put_slot(room: &mut [u8], at: usize, slot: u16) -> usize
     ensures { IsPrefixLen result room.new }
 {
-    if e.blank {
+    if slot == 0 {
         return put_bytes(room, at, b" -");
     }
-    let values = e.values;
-    let u = e.ura;
-    let a = put_values(room, at, e.before, e.count, values);
-    put_last(room, a, e.last, u)
+    put_values(room, at, b' ', &[i32::from(slot)])
+}
+
+// An orbit record.
+pub(crate) fn put_orbit(room: &mut [u8], at: usize, o: &Orbit) -> usize
+    ensures { IsPrefixLen result room.new }
+{
+    if o.slot == 0 {
+        return put_bytes(room, at, b" -");
+    }
+    let values = [
+        i32::from(o.slot),
+        i32::from(o.iodn),
+        i32::from(o.corr),
+        i32::from(o.radial),
+        i32::from(o.along),
+        i32::from(o.cross),
+    ];
+    let a = put_values(room, at, b' ', &values);
+    put_index(room, a, b'/', o.ura)
+}
+
+// A clock record, with or without its slot.
+pub(crate) fn put_clock(room: &mut [u8], at: usize, k: &Clock, slotted: bool) -> usize
+    ensures { IsPrefixLen result room.new }
+{
+    let values = [i32::from(k.slot), i32::from(k.corr), i32::from(k.c0)];
+    if !slotted {
+        return put_values(room, at, b' ', &values[1..]);
+    }
+    if k.slot == 0 {
+        return put_bytes(room, at, b" -");
+    }
+    put_values(room, at, b' ', &values)
+}
+
+// The accuracy index of a URA code.
+pub(crate) fn put_code(room: &mut [u8], at: usize, code: u8) -> usize
+    ensures { IsPrefixLen result room.new }
+{
+    put_index(room, at, b' ', ura_of(code))
+}
+
+// A bias, after a stroke.
+fn put_bias(room: &mut [u8], at: usize, b: &Bias) -> usize
+    ensures { IsPrefixLen result room.new }
+{
+    let values = [i32::from(b.mode), i32::from(b.value)];
+    put_values(room, at, b'/', &values)
+}
+
+// A satellite, with its biases, which are the first of some.
+pub(crate) fn put_sat(room: &mut [u8], at: usize, r: &BiasSat, biases: &[Bias]) -> usize
+    ensures { IsPrefixLen result room.new }
+{
+    let mut n = put_slot(room, at, r.slot);
+    for b in biases.iter().take(usize::from(r.count)) {
+        n = put_bias(room, n, b);
+    }
+    n
 }

@@ -1,109 +1,102 @@
 // show [-f] FILE: one line for each message of 61 bytes, or for each frame of 125.
 #![tactic(auto)]
 
-mod entries;
 mod entry;
-mod heads;
 mod lines;
+mod parts;
 
 use console::args::{Args, own, own_count, own_is};
 use console::input::{Input, open, standard};
 use console::put::{put_byte, put_detail, put_text};
-use console::turns::{ENDED, NOTHING, WRITTEN, WRONG, status_of};
+use console::turns::Turn;
 use contents::parts::Contents;
 use std::io::Error;
-use verdict::{Verdict, number_of};
+use verdict::{Refusal, number_of};
 
 // A line goes to standard output.
-fn write_line(rt: &HostRuntime, line: &[u8]) -> u8 {
+fn write_line(rt: &HostRuntime, line: &[u8]) -> Turn {
     if console::out::write(rt, b"show", line) {
-        return WRITTEN;
+        Turn::Written
+    } else {
+        Turn::Wrong
     }
-    WRONG
 }
 
 // The line of a refusal.
-fn write_refused(rt: &HostRuntime, v: Verdict) -> u8 {
+fn write_refused(rt: &HostRuntime, r: Refusal) -> Turn {
     let mut room = [0u8; 60];
-    let numbers = [number_of(v) as u64];
+    let v = Err(r);
+    let numbers = [u64::from(number_of(v))];
     let a = put_text(&mut room, 0, b"refused #", &numbers);
     let b = put_detail(&mut room, a, v);
-    let k = put_byte(&mut room, b, 10);
+    let k = put_byte(&mut room, b, b'\n');
     write_line(rt, &room[..k])
 }
 
 // The line of a message; that of a frame's message begins with its PRN.
-fn write_contents(rt: &HostRuntime, text: &[u8], prn: u8, c: Contents) -> u8 {
+fn write_contents(rt: &HostRuntime, text: &[u8], prn: u8, c: &Contents) -> Turn {
     let mut room = io::buffer();
-    let numbers = [prn as u64];
+    let numbers = [u64::from(prn)];
     let a = put_text(&mut room, 0, text, &numbers);
     let k = lines::put_contents(&mut room, a, c);
     write_line(rt, &room[..k])
 }
 
 // The line of a message's bytes.
-fn show_message(rt: &HostRuntime, s: &[u8]) -> u8 {
-    let r = message::read(s);
-    let v = r.verdict;
-    if number_of(v) == 0 {
-        let c = r.contents;
-        return write_contents(rt, b"", 0, c);
+fn show_message(rt: &HostRuntime, s: &[u8]) -> Turn {
+    match message::read(s) {
+        Ok(c) => write_contents(rt, b"", 0, &c),
+        Err(r) => write_refused(rt, r),
     }
-    write_refused(rt, v)
 }
 
 // The line of a frame's bytes.
-fn show_frame(rt: &HostRuntime, s: &[u8]) -> u8 {
-    let r = frame::read_frame(s);
-    let v = r.verdict;
-    if number_of(v) == 0 {
-        let c = r.contents;
-        return write_contents(rt, b"prn # ", frame::prn_of(s), c);
+fn show_frame(rt: &HostRuntime, s: &[u8]) -> Turn {
+    match frame::read_frame(s) {
+        Ok(c) => write_contents(rt, b"prn # ", frame::prn_of(s), &c),
+        Err(r) => write_refused(rt, r),
     }
-    write_refused(rt, v)
 }
 
 // The file cannot be read at an offset.
-fn say_failed(rt: &HostRuntime, name: &[u8], done: u64, e: Error) -> u8 {
+fn say_failed(rt: &HostRuntime, name: &[u8], done: u64, e: Error) -> Turn {
     console::say::say_errno_where(rt, b"show", name, b"offset", done, e);
-    WRONG
+    Turn::Wrong
 }
 
 // Whether bytes look like a frame: they begin with its sync, EB90. As a message they would have type 58, which is never valid, so no message is lost.
 fn is_framed(s: &[u8]) -> bool {
-    if s.len() < 2 {
-        return false;
-    }
-    (s[0] == 0xEB) & (s[1] == 0x90)
+    s.starts_with(b"\xeb\x90")
 }
 
 // The message at an offset; at the file's start there may be frames instead.
-fn message_at(rt: &HostRuntime, name: &[u8], done: u64, s: &[u8]) -> u8 {
-    if (done == 0) & is_framed(s) {
+fn message_at(rt: &HostRuntime, name: &[u8], done: u64, s: &[u8]) -> Turn {
+    if done == 0 && is_framed(s) {
         console::say::say_file(
             rt,
             b"show",
             name,
             b"these look like frames, which begin with EB90; use show -f",
         );
-        return WRONG;
+        return Turn::Wrong;
     }
     show_message(rt, s)
 }
 
 // The message or the frame at an offset.
-fn show_bytes(rt: &HostRuntime, name: &[u8], done: u64, s: &[u8], frames: bool) -> u8 {
-    if s.len() == 0 {
-        return ENDED;
+fn show_bytes(rt: &HostRuntime, name: &[u8], done: u64, s: &[u8], frames: bool) -> Turn {
+    if s.is_empty() {
+        return Turn::Ended;
     }
     if frames {
-        return show_frame(rt, s);
+        show_frame(rt, s)
+    } else {
+        message_at(rt, name, done, s)
     }
-    message_at(rt, name, done, s)
 }
 
 // How many bytes a message or a frame has.
-fn size_of(frames: bool) -> u8 {
+fn size_of(frames: bool) -> u64 {
     if frames { 125 } else { 61 }
 }
 
@@ -115,7 +108,7 @@ fn turn_in(
     name: &[u8],
     done: u64,
     frames: bool,
-) -> u8 {
+) -> Turn {
     let p = console::input::fill(input, room);
     if let Some(e) = p.error {
         return say_failed(rt, name, done, e);
@@ -125,7 +118,7 @@ fn turn_in(
 }
 
 // The next message or frame of a file.
-fn turn(rt: &HostRuntime, input: &mut Input, name: &[u8], done: u64, frames: bool) -> u8 {
+fn turn(rt: &HostRuntime, input: &mut Input, name: &[u8], done: u64, frames: bool) -> Turn {
     if frames {
         let mut frame = [0u8; 125];
         return turn_in(rt, &mut frame, input, name, done, true);
@@ -135,27 +128,26 @@ fn turn(rt: &HostRuntime, input: &mut Input, name: &[u8], done: u64, frames: boo
 }
 
 // All messages or frames of a file, and how the reading ended.
-fn show_turns(rt: &HostRuntime, input: &mut Input, name: &[u8], frames: bool) -> u8 {
-    let size = size_of(frames) as u64;
-    let mut state = NOTHING;
+fn show_turns(rt: &HostRuntime, input: &mut Input, name: &[u8], frames: bool) -> Turn {
     let mut done: u64 = 0;
-    let mut left: u64 = 100000000000000000;
-    while left > 0 && state < ENDED {
-        state = turn(rt, input, name, done, frames);
-        done = done % 10000000000000000000 + size;
-        left -= 1;
+    for _ in 0..100000000000000000u64 {
+        let t = turn(rt, input, name, done, frames);
+        if !t.goes_on() {
+            return t;
+        }
+        done = done.saturating_add(size_of(frames));
     }
-    state
+    Turn::Ended
 }
 
 // All messages or frames of a file; the status.
 fn show_all(rt: &HostRuntime, input: &mut Input, name: &[u8], frames: bool) -> u8 {
-    status_of(show_turns(rt, input, name, frames))
+    show_turns(rt, input, name, frames).status()
 }
 
 // The file of a name; - is standard input.
 fn show_file(rt: &HostRuntime, name: &[u8], frames: bool) -> u8 {
-    if console::words::same(name, b"-") {
+    if name == b"-".as_slice() {
         return show_all(rt, &mut standard(rt), b"standard input", frames);
     }
     match open(rt, name) {
@@ -194,7 +186,7 @@ fn run(rt: &HostRuntime, a: Args) -> u8 {
     if count == 1 {
         return show_arg(rt, a, 0, false);
     }
-    if (count == 2) & own_is(rt, a, 0, b"-f") {
+    if count == 2 && own_is(rt, a, 0, b"-f") {
         return show_arg(rt, a, 1, true);
     }
     usage(rt)

@@ -5,15 +5,15 @@ ghost use Rattle.std.specs.Prelude.{◌≡◌};
 ghost use Rattle.slots.specs.Slots.{satellite_of, slot_named};
 
 // A slot number: 1 to 255; 0 names nothing.
-#[derive(Clone, Copy)]
+#[derive(Clone, Copy, PartialEq, Eq)]
 pub struct Slot(pub u8);
 
 // A place in the mask, counting its set bits from 1.
-#[derive(Clone, Copy)]
+#[derive(Clone, Copy, PartialEq, Eq)]
 pub struct Place(pub u16);
 
 // The system of a slot.
-#[derive(Clone, Copy)]
+#[derive(Clone, Copy, PartialEq, Eq)]
 pub enum System {
     Reserved,
     BeiDou,
@@ -23,7 +23,7 @@ pub enum System {
 }
 
 // A satellite by its system and its number there.
-#[derive(Clone, Copy)]
+#[derive(Clone, Copy, PartialEq, Eq)]
 pub struct Satellite {
     pub system: System,
     pub number: u8,
@@ -33,7 +33,7 @@ pub struct Satellite {
 pub fn slot_named(x: u16) -> Slot
     ensures { result.0 ≡ slot_named x }
 {
-    if x < 256 { Slot(x as u8) } else { Slot(0) }
+    Slot(u8::try_from(x).unwrap_or(0))
 }
 
 // The satellite of a slot; reserved, number 0, where no system has it.
@@ -41,38 +41,12 @@ pub fn satellite_of(slot: Slot) -> Satellite
     ensures { result ≡ satellite_of slot.0 }
 {
     let s = slot.0;
-    if s == 0 {
-        return Satellite {
-            system: System::Reserved,
-            number: 0,
-        };
-    }
-    if s <= 63 {
-        return Satellite {
-            system: System::BeiDou,
-            number: s,
-        };
-    }
-    if s <= 100 {
-        return Satellite {
-            system: System::Gps,
-            number: s - 63,
-        };
-    }
-    if s <= 137 {
-        return Satellite {
-            system: System::Galileo,
-            number: s - 100,
-        };
-    }
-    if s <= 174 {
-        return Satellite {
-            system: System::Glonass,
-            number: s - 137,
-        };
-    }
-    Satellite {
-        system: System::Reserved,
-        number: 0,
-    }
+    let (system, number) = match s {
+        1..=63 => (System::BeiDou, s),
+        64..=100 => (System::Gps, s - 63),
+        101..=137 => (System::Galileo, s - 100),
+        138..=174 => (System::Glonass, s - 137),
+        _ => (System::Reserved, 0),
+    };
+    Satellite { system, number }
 }

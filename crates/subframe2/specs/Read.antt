@@ -1,12 +1,12 @@
 -- The answer of reading subframe 2 of B-CNAV1 (02, CR 6): 600 bits in 75 bytes, the fields and then 24 check bits.
-use Rattle.std.specs.Prelude.{ℕ, not, List, [], ◌∷◌, eqb, ltb, ℤ, pos, length, replicate}
+use Rattle.std.specs.Prelude.{ℕ, not, List, [], ◌∷◌, eqb, ltb, ℤ, pos, length, replicate, Result, Ok, Err}
 use Rattle.bits.specs.Pick.{pick}
 use Rattle.bits.specs.Bits.{field_at}
 use Rattle.bits.specs.Some.{first}
 use Rattle.check24.specs.Check.{check_ok}
 use Rattle.verdict.specs.Verdict.{says, refused_by}
 use Rattle.subframe2.specs.Fields.{fields_of}
-use Rattle.subframe2.specs.declared.Subframe2.{Subframe2}
+use Rattle.verdict.specs.declared.Refusal.{Refusal}
 
 -- 001, table 7-2: HOW, the hour of the week: the 8 bits after WN
 abbrev pub hour_of : List ℕ → ℕ
@@ -26,9 +26,10 @@ pub record Answer : Type 0 where
   pub said : List ℕ
   pub fields : List ℤ
 
--- the answer that is given
-abbrev pub subframe2_says : Subframe2 → Answer
-subframe2_says r = record { said = says r.verdict; fields = r.fields }
+-- the answer that is given; a refusal has no fields
+abbrev pub subframe2_says : Result (List ℤ) Refusal → Answer
+subframe2_says (Ok fields) = record { said = []; fields = fields }
+subframe2_says (Err r) = record { said = says (Err r); fields = replicate 31 (pos 0) }
 
 -- refused with n, and all fields 0; taken with its fields where n is 0
 unfoldable pub answer : ℕ → List ℤ → Answer

@@ -6,9 +6,10 @@ ghost use Rattle.bits.specs.Bits.{field_at};
 ghost use Rattle.bits.specs.Table.{table};
 ghost use Rattle.records.specs.Signed.{signed_half};
 ghost use Rattle.subframe2.specs.Fields.{width_of, is_signed, number_of, fields_of};
+ghost use Rattle.verdict.specs.Verdict.{refused_says, refused_by};
 ghost use Rattle.subframe2.specs.Read.{subframe2_refusal, subframe2_says, read_subframe2};
 
-use verdict::Verdict;
+use verdict::{Refusal, Refused};
 
 // 001, figures 6-6 and 6-12 to 6-14: the bits of each field, in order.
 const WIDTHS: [u8; 31] = [
@@ -23,12 +24,8 @@ const SIGNED: [bool; 31] = [
     true, false,
 ];
 
-// The verdict, and beside it the fields in the figure's order, all 0 where it is a refusal.
-#[derive(Clone, Copy)]
-pub struct Subframe2 {
-    pub verdict: Verdict,
-    pub fields: [i64; 31],
-}
+// The fields in the figure's order, or why there are none.
+pub type Subframe2 = Result<[i64; 31], Refusal>;
 
 // The table of the widths.
 fn widths() -> [u8; 31]
@@ -79,46 +76,34 @@ fn fields_of(s: &[u8]) -> [i64; 31]
     let ss = signs();
     let mut out = [0i64; 31];
     let mut at: usize = 0;
-    let mut i: usize = 0;
-    while i < 31 {
+    for i in 0..31 {
         let w = ws[i];
-        let v = number_at(s, at, w, ss[i]);
-        out[i] = v;
+        out[i] = number_at(s, at, w, ss[i]);
         at += w as usize;
-        i += 1;
     }
     out
 }
 
-// Why the bytes are refused: 35 to 37, lowest first; 0 if they are not.
-fn refusal_of(s: &[u8]) -> u8
-    ensures { result ≡ subframe2_refusal s.now }
+// Why the bytes are refused: 35 to 37, lowest first.
+fn refusal_of(s: &[u8]) -> Result<(), Refused>
+    ensures { refused_says result ≡ refused_by (subframe2_refusal s.now) }
 {
     if s.len() != 75 {
-        return 35;
+        return Err(Refused(35));
     }
     if !check24::check_ok(s, 0, 576) {
-        return 36;
+        return Err(Refused(36));
     }
-    if 167 < bits::get8(s, 13, 8) { 37 } else { 0 }
+    if 167 < bits::get8(s, 13, 8) {
+        return Err(Refused(37));
+    }
+    Ok(())
 }
 
 // A subframe is read: refusals 35 to 37, lowest first.
 pub fn read(s: &[u8]) -> Subframe2
     ensures { subframe2_says result ≡ read_subframe2 s.now }
 {
-    let n = refusal_of(s);
-    if n == 0 {
-        let fields = fields_of(s);
-        Subframe2 {
-            verdict: Verdict::Taken,
-            fields,
-        }
-    } else {
-        let fields = [0i64; 31];
-        Subframe2 {
-            verdict: Verdict::Refused(n),
-            fields,
-        }
-    }
+    refusal_of(s)?;
+    Ok(fields_of(s))
 }

@@ -11,7 +11,7 @@ use frame::{is_prn, prn_of, shell_for};
 use ledger::open::make_fresh;
 use ledger::take::take_in;
 use table_form::{ROOM_SIZE, ROOMS, free_room, is_table, room_of};
-use verdict::Verdict;
+use verdict::{Refusal, Verdict};
 
 // Room i becomes a fresh ledger for the PRN.
 fn open_room(t: &mut [u8], i: usize, prn: u8)
@@ -50,20 +50,20 @@ pub fn open(t: &mut [u8], prn: u8) -> Verdict
     ensures bytes { t.new ≡ opened t.old prn }
 {
     if !is_table(t) {
-        return Verdict::Refused(39);
+        return Err(Refusal::Number(39));
     }
     if !is_prn(prn) {
-        return Verdict::Refused(4);
+        return Err(Refusal::Number(4));
     }
     if room_of(t, prn) < ROOMS {
-        return Verdict::Refused(28);
+        return Err(Refusal::Number(28));
     }
     let free = free_room(t);
     if ROOMS <= free {
-        return Verdict::Refused(29);
+        return Err(Refusal::Number(29));
     }
     open_room(t, free, prn);
-    Verdict::Taken
+    Ok(())
 }
 
 // The ledger of a PRN is closed, and its room is free: refusals 39, 30, in this order.
@@ -72,14 +72,14 @@ pub fn close(t: &mut [u8], prn: u8) -> Verdict
     ensures bytes { t.new ≡ closed t.old prn }
 {
     if !is_table(t) {
-        return Verdict::Refused(39);
+        return Err(Refusal::Number(39));
     }
     let i = room_of(t, prn);
     if ROOMS <= i {
-        return Verdict::Refused(30);
+        return Err(Refusal::Number(30));
     }
     clear_room(t, i);
-    Verdict::Taken
+    Ok(())
 }
 
 // A frame goes to the ledger of its PRN: refusals 39, then that ledger's; where none is open for the PRN, 1, 3, 4.
@@ -88,7 +88,7 @@ pub fn take(t: &mut [u8], frame: &[u8]) -> Verdict
     ensures bytes { t.new ≡ taking_bytes t.old frame.now }
 {
     if !is_table(t) {
-        return Verdict::Refused(39);
+        return Err(Refusal::Number(39));
     }
     let i = room_of(t, prn_of(frame));
     if ROOMS <= i {

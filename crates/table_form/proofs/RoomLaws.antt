@@ -1,11 +1,12 @@
 -- What it says that bytes are a table, and which room a PRN has in it.
 use mathlib.Core.Path.{◌≡◌, sym, ap, ◌∙◌}
-use mathlib.Core.Logic.{◌≢◌}
-use Prim.Native.Nat.{ℕ, ◌+◌, ◌-◌, ◌*◌, ◌≤◌}
+use mathlib.Core.Logic.{◌≢◌, dite}
+use Prim.Native.Nat.{ℕ, ◌+◌, ◌-◌, ◌*◌, ◌≤◌, ◌<◌}
 use mathlib.Core.Bool.{Bool, true, false}
-use mathlib.Core.List.{List}
+use mathlib.Core.List.{List, []}
 use lib.Dec.{eqb}
 use lib.ListN.{length, take, drop}
+use native.Mathlib.Decide.{ℕ_discrete}
 use native.Mathlib.Omega.{arith}
 use borrow.Author.Tests.{eq-eqb, ne_eqb, eqb-true}
 use Rattle.bits.specs.Pick.{pick}
@@ -28,28 +29,41 @@ not_long t n = rw (ne_eqb (length t) table_size n)
 
 -- ---- the first room with a PRN byte, test by test
 module _ (t : List ℕ) (p : ℕ) where
-  pub with_0 : prn_in t 0 ≡ p → 0 ≡ room_with t p
+  with_0 : prn_in t 0 ≡ p → 0 ≡ room_with t p
   unfolding room_with
   with_0 e = rw (eq-eqb _ _ e)
 
   module _ (n0 : prn_in t 0 ≢ p) where
-    pub with_1 : prn_in t 1 ≡ p → 1 ≡ room_with t p
+    with_1 : prn_in t 1 ≡ p → 1 ≡ room_with t p
     unfolding room_with
     with_1 e = rw (ne_eqb _ _ n0, eq-eqb _ _ e)
 
     module _ (n1 : prn_in t 1 ≢ p) where
-      pub with_2 : prn_in t 2 ≡ p → 2 ≡ room_with t p
+      with_2 : prn_in t 2 ≡ p → 2 ≡ room_with t p
       unfolding room_with
       with_2 e = rw (ne_eqb _ _ n0, ne_eqb _ _ n1, eq-eqb _ _ e)
 
       module _ (n2 : prn_in t 2 ≢ p) where
-        pub with_3 : prn_in t 3 ≡ p → 3 ≡ room_with t p
+        with_3 : prn_in t 3 ≡ p → 3 ≡ room_with t p
         unfolding room_with
         with_3 e = rw (ne_eqb _ _ n0, ne_eqb _ _ n1, ne_eqb _ _ n2, eq-eqb _ _ e)
 
         pub with_4 : prn_in t 3 ≢ p → 4 ≡ room_with t p
         unfolding room_with
         with_4 n3 = rw (ne_eqb _ _ n0, ne_eqb _ _ n1, ne_eqb _ _ n2, ne_eqb _ _ n3)
+
+  -- room i, where none before it has the byte
+  pub with_at : (i : ℕ) → i < 4 → ((k : ℕ) → k < i → prn_in t k ≢ p) → prn_in t i ≡ p → i ≡ room_with t p
+  with_at i l n e =
+      dite (ℕ_discrete i 0)
+      (λ z. z ∙ with_0 (rw z at e))
+      (λ i0. dite (ℕ_discrete i 1)
+      (λ z. z ∙ with_1 (n 0 (omega arith)) (rw z at e))
+      (λ i1. dite (ℕ_discrete i 2)
+      (λ z. z ∙ with_2 (n 0 (omega arith)) (n 1 (omega arith)) (rw z at e))
+      (λ i2.
+      let z : i ≡ 3 = omega arith in
+      z ∙ with_3 (n 0 (omega arith)) (n 1 (omega arith)) (n 2 (omega arith)) (rw z at e))))
 
   pub with_le : room_with t p ≤ 4
   unfolding room_with
@@ -86,9 +100,8 @@ module _ (t : List ℕ) (prn i : ℕ) (y : is_table t ≡ true) (e : i ≡ room_
   unfolding ledger_for
   ledger_own = rw y (lent_part t i ∙ ap (part t) e)
 
-  pub ledger_none : size * i ≡ table_size → take (size * i - size * i) (drop (size * i) t) ≡ ledger_for t prn
+  pub ledger_none : size * i ≡ table_size → [] ≡ ledger_for t prn
   unfolding ledger_for
   ledger_none four =
-      let n : size * i - size * i ≡ 0 = omega arith in
       let k : 4 ≡ i = omega arith in
-      rw (y, n) (sym (part_none t (table_long t y)) ∙ ap (part t) (k ∙ e))
+      rw y (sym (part_none t (table_long t y)) ∙ ap (part t) (k ∙ e))

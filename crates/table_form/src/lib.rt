@@ -42,17 +42,10 @@ pub fn is_table(t: &[u8]) -> bool
 fn room_with(t: &[u8], p: u8) -> usize
     ensures { result ≡ room_with t.now p }
 {
-    if byte(t, 0) == p {
-        return 0;
-    }
-    if byte(t, ROOM_SIZE) == p {
-        return 1;
-    }
-    if byte(t, ROOM_SIZE * 2) == p {
-        return 2;
-    }
-    if byte(t, ROOM_SIZE * 3) == p {
-        return 3;
+    for i in 0..ROOMS {
+        if byte(t, ROOM_SIZE * i) == p {
+            return i;
+        }
     }
     ROOMS
 }
@@ -78,13 +71,12 @@ pub fn room_of(t: &[u8], prn: u8) -> usize
 pub fn ledger_for(t: &[u8], prn: u8) -> &[u8]
     ensures { result.now ≡ ledger_for t.now prn }
 {
-    let none: usize = 0;
     if !is_table(t) {
-        return &t[none..none];
+        return &[];
     }
     let a = ROOM_SIZE * room_of(t, prn);
     if a == TABLE_SIZE {
-        return &t[a..a];
+        return &[];
     }
     let e = a + ROOM_SIZE;
     &t[a..e]

@@ -12,6 +12,8 @@ use borrow.Author.Tests.{eq-eqb, ne_eqb, lt-ltb, le-ltb}
 use Rattle.bits.specs.Pick.{pick}
 use Rattle.bits.specs.Some.{any_of, first}
 use Rattle.broadcast.specs.Issues.{is_ill, issues_refusal}
+use Rattle.verdict.specs.Verdict.{refused_by}
+use Rattle.verdict.proofs.NumberLaws.{none_said, one_said}
 use Rattle.table_form.specs.Table.{is_table, room_of, has_room}
 use Rattle.table_list.specs.Questions.{asking_refusal, asking_slot_refusal}
 
@@ -68,9 +70,9 @@ module _ (t : List ℕ) (prn : ℕ) (is : List ℕ) (slot : ℕ) where
           go false shut = refl
 
 -- a refusal is given alone
-pub alone : {A : Type 0} (f : ℕ → A) (x : A) (why n : ℕ) → why ≡ n → why ≢ 0 → f why ≡ pick (eqb n 0) x (f n)
-alone f x why n e z = rw (← e, ne_eqb why 0 z)
+pub alone : {A : Type 0} (f : ℕ → A) (x : A) (why n : ℕ) → why ∷ [] ≡ refused_by n → f why ≡ pick (eqb n 0) x (f n)
+alone f x why n e = let k = one_said why n e in rw (k.0, ne_eqb n 0 k.1)
 
 -- or what the PRN's ledger answers
-pub answered : {A : Type 0} (y x : A) (why n : ℕ) → why ≡ n → why ≡ 0 → (z : A) → z ≡ x → z ≡ pick (eqb n 0) x y
-answered y x why n e o z q = rw (← e, eq-eqb why 0 o) q
+pub answered : {A : Type 0} (y x : A) (n : ℕ) → [] ≡ refused_by n → (z : A) → z ≡ x → z ≡ pick (eqb n 0) x y
+answered y x n e z q = rw (none_said n e) q

@@ -6,6 +6,7 @@ ghost use Rattle.list.specs.Rows.{count_says};
 ghost use Rattle.row.specs.Row.{row_says};
 ghost use Rattle.sheet_writing.specs.Writing.{sheet_says};
 ghost use Rattle.sheet_checking.specs.Checking.{checked_says};
+ghost use Rattle.verdict.specs.Verdict.{refused_says, refused_by};
 ghost use Rattle.table_list.specs.Questions.{asking_refusal, asking_slot_refusal, count_for, row_at_for, row_of_slot_for, sheet_answer_for, sheet_room_for, checked_for};
 
 use broadcast::issues_refusal;
@@ -14,36 +15,34 @@ use row::RowAnswer;
 use sheet_checking::Checked;
 use sheet_writing::Sheet;
 use table_form::{ROOMS, is_table, ledger_for, room_of};
+use verdict::Refused;
 
-// Why a question to the list of a PRN is refused: 39, 1, 17, 30, in this order; 0 if it is not.
-pub fn asking_refusal(t: &[u8], prn: u8, issues: &[u16]) -> u8
-    ensures { result ≡ asking_refusal t.now prn issues.now }
+// Why a question to the list of a PRN is refused: 39, 1, 17, 30, in this order.
+pub fn asking_refusal(t: &[u8], prn: u8, issues: &[u16]) -> Result<(), Refused>
+    ensures { refused_says result ≡ refused_by (asking_refusal t.now prn issues.now) }
 {
     if !is_table(t) {
-        return 39;
+        return Err(Refused(39));
     }
-    let why = issues_refusal(issues);
-    if why != 0 {
-        return why;
-    }
+    issues_refusal(issues)?;
     if ROOMS <= room_of(t, prn) {
-        return 30;
+        return Err(Refused(30));
     }
-    0
+    Ok(())
 }
 
-// Why a question for a slot is refused: 39, 1, 11, 17, 30, in this order; 0 if it is not.
-fn asking_slot_refusal(t: &[u8], prn: u8, issues: &[u16], slot: u16) -> u8
-    ensures { result ≡ asking_slot_refusal t.now prn issues.now slot }
+// Why a question for a slot is refused: 39, 1, 11, 17, 30, in this order.
+fn asking_slot_refusal(t: &[u8], prn: u8, issues: &[u16], slot: u16) -> Result<(), Refused>
+    ensures { refused_says result ≡ refused_by (asking_slot_refusal t.now prn issues.now slot) }
 {
     if !is_table(t) {
-        return 39;
+        return Err(Refused(39));
     }
     if issues.len() != 255 {
-        return 1;
+        return Err(Refused(1));
     }
     if (slot == 0) | (255 < slot) {
-        return 11;
+        return Err(Refused(11));
     }
     asking_refusal(t, prn, issues)
 }
@@ -52,10 +51,7 @@ fn asking_slot_refusal(t: &[u8], prn: u8, issues: &[u16], slot: u16) -> u8
 pub fn row_count(t: &[u8], prn: u8, issues: &[u16]) -> Count
     ensures { count_says result ≡ count_for t.now prn issues.now }
 {
-    let why = asking_refusal(t, prn, issues);
-    if why != 0 {
-        return Count::Refused(why);
-    }
+    asking_refusal(t, prn, issues)?;
     list::rows::row_count(ledger_for(t, prn), issues)
 }
 
@@ -63,10 +59,7 @@ pub fn row_count(t: &[u8], prn: u8, issues: &[u16]) -> Count
 pub fn row_at(t: &[u8], prn: u8, issues: &[u16], n: u16) -> RowAnswer
     ensures { row_says result ≡ row_at_for t.now prn issues.now n }
 {
-    let why = asking_refusal(t, prn, issues);
-    if why != 0 {
-        return RowAnswer::Refused(why);
-    }
+    asking_refusal(t, prn, issues)?;
     list::rows::row_at(ledger_for(t, prn), issues, n)
 }
 
@@ -74,10 +67,7 @@ pub fn row_at(t: &[u8], prn: u8, issues: &[u16], n: u16) -> RowAnswer
 pub fn row_of_slot(t: &[u8], prn: u8, issues: &[u16], slot: u16) -> RowAnswer
     ensures { row_says result ≡ row_of_slot_for t.now prn issues.now slot }
 {
-    let why = asking_slot_refusal(t, prn, issues, slot);
-    if why != 0 {
-        return RowAnswer::Refused(why);
-    }
+    asking_slot_refusal(t, prn, issues, slot)?;
     list::rows::row_of_slot(ledger_for(t, prn), issues, slot)
 }
 
@@ -86,10 +76,7 @@ pub fn write_sheet(room: &mut [u8], t: &[u8], prn: u8, issues: &[u16]) -> Sheet
     ensures answer { sheet_says result ≡ sheet_answer_for t.now prn issues.now room.old }
     ensures bytes { room.new ≡ sheet_room_for t.now prn issues.now room.old }
 {
-    let why = asking_refusal(t, prn, issues);
-    if why != 0 {
-        return Sheet::Refused(why);
-    }
+    asking_refusal(t, prn, issues)?;
     sheet_writing::write_sheet(room, ledger_for(t, prn), issues)
 }
 
@@ -98,9 +85,6 @@ pub fn write_sheet(room: &mut [u8], t: &[u8], prn: u8, issues: &[u16]) -> Sheet
 pub fn check_sheet(t: &[u8], prn: u8, issues: &[u16], sheet: &[u8]) -> Checked
     ensures { checked_says result ≡ checked_for t.now prn issues.now sheet.now }
 {
-    let why = asking_refusal(t, prn, issues);
-    if why != 0 {
-        return Checked::Refused(why);
-    }
+    asking_refusal(t, prn, issues)?;
     sheet_checking::check_sheet(ledger_for(t, prn), issues, sheet)
 }

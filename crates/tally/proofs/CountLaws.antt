@@ -1,13 +1,16 @@
 -- Counting by its cases; and what the counters say after it.
 use mathlib.Core.Path.{◌≡◌, ap, ◌∙◌}
-use mathlib.Core.Logic.{◌≢◌}
-use Prim.Native.Nat.{ℕ, ◌*◌, ◌≤◌, ◌<◌}
+use mathlib.Core.Logic.{◌≢◌, dite}
+use Prim.Native.Nat.{ℕ, ◌+◌, ◌*◌, ◌/◌, ◌%◌, ◌≤◌, ◌<◌, min}
 use mathlib.Core.Bool.{true, false}
 use mathlib.Core.List.{List}
 use lib.ListN.{length, get_or}
 use lib.Seq.{get_or-set_same}
+use native.Mathlib.Decide.{dec_lt}
 use native.Mathlib.Omega.{arith}
-use borrow.Author.Tests.{eq-eqb, ne_eqb, le-leb, lt-leb}
+use mir.Syntax.{w32}
+use Rattle.std.specs.Int.{to_be_bytes}
+use borrow.Author.Tests.{eq-eqb, ne_eqb, le-leb, lt-leb, lt-ltb, le-ltb}
 use Rattle.bits.specs.Bytes.{store_at}
 use Rattle.bits.specs.Table.{table}
 use Rattle.bits.proofs.TableLaws.{length_table, get_or_table}
@@ -27,6 +30,13 @@ module _ (n : ℕ) (low : 1 ≤ n) where
   is_counted_lem h = rw (le-leb 1 n low, le-leb n 39 h)
 
 -- ---- the counters
+-- one more, as far as 32 bits count
+pub stopping : (x : ℕ) → x < 4294967296 → min (x + 1) 4294967295 ≡ one_more x
+stopping x h =
+    dite (dec_lt x 4294967295)
+    (λ l. rw (lt-ltb x 4294967295 l) (omega arith))
+    (λ l. rw (le-ltb x 4294967295 (omega arith)) (omega arith))
+
 module _ (t : Tally) (n : ℕ) where
   pub raised_not : is_counted n ≡ false → t ≡ raised_of t n
   unfolding raised_of
@@ -41,6 +51,13 @@ module _ (t : Tally) (n : ℕ) where
       ∙ rw z (get_or-set_same (table f 40) n (one_more (get_or (table f 40) n 0)) 0 (omega (arith, length_table f 40)) ∙ ap one_more (get_or_table f 40 n 0 h))
 
 -- ---- the bytes
+pub four_bytes : (n : ℕ) → n < 4294967296 → to_be_bytes w32 n ≡ bytes_of n
+four_bytes n h =
+    let a : n / 16777216 % 256 ≡ n / 65536 / 256 = omega arith in
+    let b : n / 256 % 256 ≡ n % 65536 / 256 = omega arith in
+    let c : n % 256 ≡ n % 65536 % 256 = omega arith in
+    rw (a, b, c)
+
 module _ (y : List ℕ) (n : ℕ) where
   pub count_no_tally : length y ≢ tally_size → y ≡ counted y n
   unfolding counted

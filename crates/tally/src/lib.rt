@@ -1,8 +1,10 @@
 // The tally of refusal numbers, lent and counted up in place: 02, CR 14. C lends it as bytes of the form fixed in docs/FORM.md.
 #![tactic(auto)]
 
-ghost use Rattle.std.specs.Prelude.{◌≡◌, ◌≤◌, length};
-ghost use Rattle.tally.specs.Tally.{one_more, bytes_of, raised_of, tally_of, counted};
+ghost use Rattle.std.specs.Prelude.{◌≡◌};
+ghost use Rattle.tally.specs.Tally.{raised_of, tally_of, counted};
+
+use std::array;
 
 // The bytes of a tally. Zero bytes have counted nothing.
 pub const TALLY_SIZE: usize = 160;
@@ -13,72 +15,27 @@ pub struct Tally {
     pub counts: [u32; 40],
 }
 
-// One more, stopping at 4,294,967,295.
-fn one_more(x: u32) -> u32
-    ensures { result ≡ one_more x }
-{
-    if x < 4294967295 { x + 1 } else { x }
-}
-
-// The counters with that of a refusal number raised, by value.
-fn raised(t: Tally, n: u8) -> Tally
-    ensures { result ≡ raised_of t n }
-{
-    if n < 1 {
-        return t;
-    }
-    if 39 < n {
-        return t;
-    }
-    let at = n as usize;
-    let x = one_more(t.counts[at]);
-    let mut next = t;
-    next.counts[at] = x;
-    next
-}
-
-// The counter of a refusal number is raised in place.
+// The counter of a refusal number is raised in place; it stops at 4,294,967,295.
 pub fn raise(t: &mut Tally, n: u8)
     ensures { t.new ≡ raised_of t.old n }
 {
-    let old = *t;
-    *t = raised(old, n);
-}
-
-// The same for counters that are held by value.
-fn counted(t: Tally, n: u8) -> Tally
-    ensures { result ≡ raised_of t n }
-{
-    let mut s = t;
-    raise(&mut s, n);
-    s
+    if n < 1 {
+        return;
+    }
+    if 39 < n {
+        return;
+    }
+    let at = n as usize;
+    t.counts[at] = t.counts[at].saturating_add(1);
 }
 
 // The counters that the bytes of a tally say.
 pub fn tally_of(tally: &[u8]) -> Tally
     ensures { result ≡ tally_of tally.now }
 {
-    let mut counts = [0u32; 40];
-    let mut i: usize = 0;
-    while i < 40 {
-        counts[i] = lent::four(tally, 4 * i);
-        i += 1;
+    Tally {
+        counts: array::from_fn(|i| lent::four(tally, 4 * i)),
     }
-    Tally { counts }
-}
-
-// The four bytes of a number, high byte first.
-fn bytes_of(x: u32) -> [u8; 4]
-    ensures { result ≡ bytes_of x }
-{
-    let hi = x / 65536;
-    let lo = x % 65536;
-    [
-        (hi / 256) as u8,
-        (hi % 256) as u8,
-        (lo / 256) as u8,
-        (lo % 256) as u8,
-    ]
 }
 
 // A refusal number is counted up: the counters are taken out of the bytes, raised, and the raised one is stored back. 0 is taken, and is not counted;
@@ -96,7 +53,8 @@ pub fn count(tally: &mut [u8], n: u8)
         return;
     }
     let i = n as usize;
-    let after = counted(tally_of(tally), n);
-    let b = bytes_of(after.counts[i]);
+    let mut counters = tally_of(tally);
+    raise(&mut counters, n);
+    let b = counters.counts[i].to_be_bytes();
     lent::store(tally, 4 * i, &b);
 }

@@ -5,7 +5,7 @@ ghost use Rattle.std.specs.Prelude.{◌≡◌, ◌<◌};
 ghost use Rattle.ura.specs.Ura.{quarters_of, ura_of, code_from, code_of, kind_of, quarters_in, held_ura};
 
 // Code 0, codes 1 to 62 in quarter millimetres, code 63.
-#[derive(Clone, Copy)]
+#[derive(Clone, Copy, PartialEq, Eq)]
 pub enum Ura {
     Unknown,
     Quarters(u32),
@@ -29,25 +29,21 @@ fn quarters(code: u8) -> u32
 pub fn ura_of(code: u8) -> Ura
     ensures { result ≡ ura_of code }
 {
-    if code == 0 {
-        return Ura::Unknown;
+    match code {
+        0 => Ura::Unknown,
+        1..=62 => Ura::Quarters(quarters(code)),
+        _ => Ura::Above,
     }
-    if code < 63 {
-        return Ura::Quarters(quarters(code));
-    }
-    Ura::Above
 }
 
 // The first code from 1 to 62 that gives q quarters; 64 if none does.
 fn seek_code(q: u32) -> u8
     ensures { result ≡ code_from q 1 62 }
 {
-    let mut c: u8 = 1;
-    while c < 63 {
+    for c in 1..63 {
         if quarters(c) == q {
             return c;
         }
-        c += 1;
     }
     64
 }
@@ -89,11 +85,9 @@ pub fn ura_quarters(u: Ura) -> u32
 pub fn held_ura(kind: u8, q: u32) -> Ura
     ensures { result ≡ held_ura kind q }
 {
-    if kind == 1 {
-        return Ura::Quarters(q);
+    match kind {
+        1 => Ura::Quarters(q),
+        2 => Ura::Above,
+        _ => Ura::Unknown,
     }
-    if kind == 2 {
-        return Ura::Above;
-    }
-    Ura::Unknown
 }

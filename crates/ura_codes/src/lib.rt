@@ -4,8 +4,10 @@
 ghost use Rattle.std.specs.Prelude.{◌≡◌, ◌<◌};
 ghost use Rattle.ura_codes.specs.Codes.{codes_at, code_part_at, no_codes};
 
+use std::array;
+
 // The part of a type 5: a sub-type, and 70 URA codes, 8 x class + value each.
-#[derive(Clone, Copy)]
+#[derive(Clone, Copy, PartialEq, Eq)]
 pub struct CodePart {
     pub epoch: u32,
     pub ssr: u8,
@@ -33,13 +35,7 @@ fn read_row(s: &[u8], at: u32) -> [u8; 70]
     requires { at < 100000 }
     ensures { result ≡ codes_at s.now at }
 {
-    let mut out = [0u8; 70];
-    let mut i: usize = 0;
-    while i < 70 {
-        out[i] = bits::get8(s, at as usize + 6 * i, 6);
-        i += 1;
-    }
-    out
+    array::from_fn(|i| bits::get8(s, at as usize + 6 * i, 6))
 }
 
 // The part from bit at on, the bit after the type.

@@ -5,8 +5,8 @@ ghost use Rattle.std.specs.Prelude.{◌≡◌, ◌+◌, ◌<◌, ◌≤◌, leng
 ghost use Rattle.bits.specs.Bits.{bit_at, put_rows};
 ghost use Rattle.records.specs.Orbit.{orbit_widths};
 ghost use Rattle.records.specs.Clock.{clock_widths};
-ghost use Rattle.verdict.specs.Verdict.{says, refused_by};
-ghost use Rattle.fitting.specs.Fits.{eight, all_fit};
+ghost use Rattle.verdict.specs.Verdict.{says, refused_says, refused_by};
+ghost use Rattle.fitting.specs.Fits.{eight, fits, all_fit};
 ghost use Rattle.writing.specs.Fits.{clock_vals, orbit_vals, clock_row, orbit_row, parts_fit, last_fit, fits_all};
 ghost use Rattle.writing.specs.Write.{head_put, mask_widths, mask_row, mask_put, clocks_put, orbits_put, bias_put, code_put, parts_put, check_put, message_of, end_for, content_refusal, write_refusal, written};
 
@@ -20,7 +20,7 @@ use layout::{Layout, end_of, layout_of, orbits_from};
 use records::clock::Clock;
 use records::orbit::Orbit;
 use ura_codes::CodePart;
-use verdict::Verdict;
+use verdict::{Refusal, Refused, Verdict};
 
 // The widths of a clock record's fields.
 fn clock_widths(slotted: bool) -> [u8; 8]
@@ -69,36 +69,32 @@ fn orbit_vals(o: Orbit) -> [u64; 8]
     ]
 }
 
-// Whether the fields of each clock record are within their widths.
-fn clocks_fit(slotted: bool, ks: [Clock; 23]) -> bool
-    ensures { result ≡ all_fit (clock_widths slotted) (clock_row ks) 23 }
+// Whether the fields of a clock record are within their widths.
+fn clock_fits(slotted: bool, k: Clock) -> bool
+    ensures { result ≡ fits (clock_widths slotted) (clock_vals k) }
 {
-    let ws = clock_widths(slotted);
-    let mut i: usize = 0;
-    while i < 23 {
-        let k = ks[i];
-        if !row_fits(ws, clock_vals(k)) {
-            return false;
-        }
-        i += 1;
-    }
-    true
+    row_fits(clock_widths(slotted), clock_vals(k))
+}
+
+// Whether the fields of an orbit record are within their widths.
+fn orbit_fits(o: Orbit) -> bool
+    ensures { result ≡ fits orbit_widths (orbit_vals o) }
+{
+    row_fits(orbit_widths(), orbit_vals(o))
+}
+
+// Whether the fields of each clock record are within their widths.
+fn clocks_fit(slotted: bool, ks: &[Clock; 23]) -> bool
+    ensures { result ≡ all_fit (clock_widths slotted) (clock_row ks.now) 23 }
+{
+    ks.iter().all(|k| clock_fits(slotted, *k))
 }
 
 // Whether the fields of each orbit record are within their widths.
-fn orbits_fit(os: [Orbit; 6]) -> bool
-    ensures { result ≡ all_fit orbit_widths (orbit_row os) 6 }
+fn orbits_fit(os: &[Orbit; 6]) -> bool
+    ensures { result ≡ all_fit orbit_widths (orbit_row os.now) 6 }
 {
-    let ws = orbit_widths();
-    let mut i: usize = 0;
-    while i < 6 {
-        let o = os[i];
-        if !row_fits(ws, orbit_vals(o)) {
-            return false;
-        }
-        i += 1;
-    }
-    true
+    os.iter().all(|o| orbit_fits(*o))
 }
 
 // Whether every field of the mask, the clocks and the orbits is within its width.
@@ -109,15 +105,12 @@ fn parts_fit(c: Contents) -> bool
     let k = c.clock;
     let o = c.orbit;
     let l = layout_of(c.kind, k.count, o.count);
-    let bytes = m.bytes;
-    let ks = k.clocks;
-    let os = o.orbits;
     let a = head_fits(4, 0, m.epoch, m.ssr, m.iodp, 0);
     let b = head_fits(l.iodp, l.start, k.epoch, k.ssr, k.iodp, k.start);
     let d = head_fits(0, 0, o.epoch, o.ssr, 0, 0);
-    let e = clocks_fit(l.slotted, ks);
-    let f = orbits_fit(os);
-    let g = mask_bit(bytes, 255) == 0;
+    let e = clocks_fit(l.slotted, &k.clocks);
+    let f = orbits_fit(&o.orbits);
+    let g = mask_bit(&m.bytes, 255) == 0;
     a & b & d & e & f & g
 }
 
@@ -138,11 +131,7 @@ fn last_parts_fit(kind: u8, b: BiasPart, u: CodePart) -> bool
 fn all_fields_fit(c: Contents) -> bool
     ensures { result ≡ fits_all c }
 {
-    let b = c.bias;
-    let u = c.code;
-    let most = parts_fit(c);
-    let last = last_parts_fit(c.kind, b, u);
-    most & last
+    parts_fit(c) && last_parts_fit(c.kind, c.bias, c.code)
 }
 
 // Where the parts of canonical contents would end, as written.
@@ -158,15 +147,16 @@ fn end_for(c: Contents) -> u32
     end_of(layout_of(c.kind, k.count, o.count))
 }
 
-// The lowest number of 8 to 12 and 16 that applies to canonical contents; 0 if none does.
-fn content_refusal(c: Contents) -> u8
-    ensures { result ≡ content_refusal c }
+// The lowest number of 8 to 12 and 16 that applies to canonical contents, if one does.
+fn content_refusal(c: Contents) -> Result<(), Refused>
+    ensures { refused_says result ≡ refused_by (content_refusal c) }
 {
-    let n = judging::refusal_of(end_for(c), c);
-    if n != 0 {
-        return n;
+    judging::refusal_of(end_for(c), c)?;
+    if all_fields_fit(c) {
+        Ok(())
+    } else {
+        Err(Refused(16))
     }
-    if all_fields_fit(c) { 0 } else { 16 }
 }
 
 // The type and, in types 6 and 7, the counts are put.
@@ -180,22 +170,19 @@ fn put_head(room: &mut [u8], kind: u8, l: Layout)
 }
 
 // Bit i of a mask's 32 bytes, from 0.
-fn mask_bit(bytes: [u8; 32], i: u32) -> u64
-    ensures { result ≡ bit_at bytes i }
+fn mask_bit(bytes: &[u8; 32], i: u32) -> u64
+    ensures { result ≡ bit_at bytes.now i }
 {
-    bits::bit(&bytes, i as usize) as u64
+    bits::bit(bytes, i as usize) as u64
 }
 
 // The mask's bits are put from bit at on.
-fn put_mask_bits(room: &mut [u8], at: u32, bytes: [u8; 32])
+fn put_mask_bits(room: &mut [u8], at: u32, bytes: &[u8; 32])
     requires { at < 100000 }
-    ensures { room.new ≡ put_rows room.old at mask_widths (mask_row bytes) 255 }
+    ensures { room.new ≡ put_rows room.old at mask_widths (mask_row bytes.now) 255 }
 {
-    let mut i: u32 = 0;
-    while i < 255 {
-        let b = mask_bit(bytes, i);
-        put_bits::put(room, (at + i) as usize, 1, b);
-        i += 1;
+    for i in 0..255 {
+        put_bits::put(room, (at + i) as usize, 1, mask_bit(bytes, i));
     }
 }
 
@@ -205,24 +192,20 @@ fn put_mask(room: &mut [u8], l: Layout, m: MaskPart)
 {
     if l.mask {
         let at = l.head as u32;
-        let bytes = m.bytes;
         put_part_head(room, at, 4, 0, m.epoch, m.ssr, m.iodp, 0);
-        put_mask_bits(room, at + 27, bytes);
+        put_mask_bits(room, at + 27, &m.bytes);
     }
 }
 
 // The first n clock records are put in a row from bit at on.
-fn put_clock_rows(room: &mut [u8], at: u32, slotted: bool, ks: [Clock; 23], n: u8)
+fn put_clock_rows(room: &mut [u8], at: u32, slotted: bool, ks: &[Clock; 23], n: u8)
     requires { (at < 100000) × (n ≤ 23) }
-    ensures { room.new ≡ put_rows room.old at (clock_widths slotted) (clock_row ks) n }
+    ensures { room.new ≡ put_rows room.old at (clock_widths slotted) (clock_row ks.now) n }
 {
     let ws = clock_widths(slotted);
     let each: u32 = if slotted { 27 } else { 18 };
-    let mut i: u32 = 0;
-    while i < n as u32 {
-        let k = ks[i as usize];
-        put_bits::puts(room, at + each * i, ws, clock_vals(k));
-        i += 1;
+    for i in 0..n as u32 {
+        put_bits::puts(room, at + each * i, ws, clock_vals(ks[i as usize]));
     }
 }
 
@@ -234,24 +217,24 @@ fn put_clocks(room: &mut [u8], l: Layout, k: ClockPart)
     let n = l.clocks;
     let at = l.head as u32;
     let from = at + (23 + l.iodp as u32 + l.start as u32);
-    let ks = k.clocks;
     if n != 0 {
         put_part_head(room, at, l.iodp, l.start, k.epoch, k.ssr, k.iodp, k.start);
-        put_clock_rows(room, from, l.slotted, ks, n);
+        put_clock_rows(room, from, l.slotted, &k.clocks, n);
     }
 }
 
 // The first n orbit records are put in a row from bit at on.
-fn put_orbit_rows(room: &mut [u8], at: u32, os: [Orbit; 6], n: u8)
+fn put_orbit_rows(room: &mut [u8], at: u32, os: &[Orbit; 6], n: u8)
     requires { (at < 100000) × (n ≤ 6) }
-    ensures { room.new ≡ put_rows room.old at orbit_widths (orbit_row os) n }
+    ensures { room.new ≡ put_rows room.old at orbit_widths (orbit_row os.now) n }
 {
-    let ws = orbit_widths();
-    let mut i: u32 = 0;
-    while i < n as u32 {
-        let o = os[i as usize];
-        put_bits::puts(room, at + 69 * i, ws, orbit_vals(o));
-        i += 1;
+    for i in 0..n as u32 {
+        put_bits::puts(
+            room,
+            at + 69 * i,
+            orbit_widths(),
+            orbit_vals(os[i as usize]),
+        );
     }
 }
 
@@ -262,10 +245,9 @@ fn put_orbits(room: &mut [u8], l: Layout, o: OrbitPart)
 {
     let n = l.orbits;
     let at = orbits_from(l);
-    let os = o.orbits;
     if n != 0 {
         put_part_head(room, at, 0, 0, o.epoch, o.ssr, 0, 0);
-        put_orbit_rows(room, at + 23, os, n);
+        put_orbit_rows(room, at + 23, &o.orbits, n);
     }
 }
 
@@ -292,17 +274,12 @@ fn put_parts(room: &mut [u8], c: Contents, l: Layout)
     requires { (l.orbits ≤ 6) × (l.clocks ≤ 23) × (l.iodp ≤ 4) × (l.start ≤ 9) }
     ensures { room.new ≡ parts_put room.old c l }
 {
-    let m = c.mask;
-    let k = c.clock;
-    let o = c.orbit;
-    let b = c.bias;
-    let u = c.code;
     put_head(room, c.kind, l);
-    put_mask(room, l, m);
-    put_clocks(room, l, k);
-    put_orbits(room, l, o);
-    put_bias_part(room, c.kind, b);
-    put_code_part(room, c.kind, u);
+    put_mask(room, l, c.mask);
+    put_clocks(room, l, c.clock);
+    put_orbits(room, l, c.orbit);
+    put_bias_part(room, c.kind, c.bias);
+    put_code_part(room, c.kind, c.code);
 }
 
 // The check bits of the first 462 bits are put after them.
@@ -332,13 +309,10 @@ pub fn write(room: &mut [u8], c: Contents) -> Verdict
     ensures bytes { room.new ≡ written room.old c }
 {
     if room.len() != 61 {
-        return Verdict::Refused(1);
+        return Err(Refusal::Number(1));
     }
     let k = canonical::canonical(c);
-    let n = content_refusal(k);
-    if n != 0 {
-        return Verdict::Refused(n);
-    }
+    content_refusal(k)?;
     put_message(room, k);
-    Verdict::Taken
+    Ok(())
 }

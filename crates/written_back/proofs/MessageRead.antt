@@ -8,6 +8,7 @@ use lib.Dec.{eqb}
 use lib.ListN.{length, replicate, length-replicate}
 use native.Mathlib.Omega.{arith}
 use borrow.Author.Tests.{eq-eqb}
+use Rattle.std.specs.Prelude.{Ok}
 use Rattle.bits.specs.Bits.{bit_at, field_at}
 use Rattle.check24.specs.Check.{check_ok}
 use Rattle.contents.specs.Parts.{no_mask, mask_part_at, mask_in, layout_at, contents_at, end_at}
@@ -17,7 +18,6 @@ use Rattle.verdict.specs.Verdict.{says, number_in}
 use Rattle.message.specs.Read.{answer, read_message}
 use Rattle.contents.specs.declared.parts.MaskPart.{MaskPart}
 use Rattle.contents.specs.declared.parts.Contents.{Contents}
-use Rattle.verdict.specs.declared.Verdict.TheVariants.{Taken}
 use Rattle.layout.proofs.LayoutLaws.{pick_all}
 use Rattle.verdict.proofs.NumberLaws.{number_back, number_last}
 use Rattle.canonical.specs.Canon.{layout_for, canon}
@@ -106,16 +106,16 @@ read_octets s =
     none_octets
 
 -- an answer that takes has the number 0
-answer_taken : (n : ℕ) (c : Contents) → (answer n c).said ≡ says Taken → n ≡ 0
+answer_taken : (n : ℕ) (c : Contents) → (answer n c).said ≡ says (Ok tt) → n ≡ 0
 unfolding answer
 answer_taken n c e = sym (number_back n) ∙ ap number_in e
 
-pub reading_answer : (s : List ℕ) → (read_message s).said ≡ says Taken → read_message s ≡ answer 0 (contents_at s 0)
+pub reading_answer : (s : List ℕ) → (read_message s).said ≡ says (Ok tt) → read_message s ≡ answer 0 (contents_at s 0)
 unfolding read_message
 reading_answer s e = ap (λ (n : ℕ). answer n (contents_at s 0)) (answer_taken _ (contents_at s 0) e)
 
 -- so nothing applies to what was read
-pub reading_judged : (s : List ℕ) → (read_message s).said ≡ says Taken → refusal_at s 0 ≡ 0
+pub reading_judged : (s : List ℕ) → (read_message s).said ≡ says (Ok tt) → refusal_at s 0 ≡ 0
 unfolding read_message
 reading_judged s e =
     let n1 = first_not 1 _ (not (eqb (length s) 61)) (λ q. omega arith) (answer_taken _ (contents_at s 0) e) in

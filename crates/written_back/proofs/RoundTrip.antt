@@ -7,6 +7,7 @@ use native.Mathlib.Decide.{ℕ_discrete}
 use native.Mathlib.Omega.{arith}
 use borrow.Author.Tests.{eq-eqb, ne_eqb, le-ltb}
 use lib.ListN.{length}
+use Rattle.std.specs.Prelude.{Ok}
 use Rattle.bits.specs.Bits.{bit_at}
 use Rattle.layout.specs.Layout.{end_of}
 use Rattle.biases.specs.Biases.{bias_part_at, bias_end}
@@ -18,7 +19,6 @@ use Rattle.judge.specs.Judge.{refusal_of, refusal_at}
 use Rattle.message.specs.Read.{answer, read_message}
 use Rattle.contents.specs.declared.parts.Contents.{Contents}
 use Rattle.verdict.specs.Verdict.{says, refused_by}
-use Rattle.verdict.specs.declared.Verdict.TheVariants.{Taken}
 use Rattle.canonical.specs.Canon.{canon}
 use Rattle.canonical.proofs.CanonLaws.{canon_read, layout_read}
 use Rattle.writing.specs.Write.{end_for, content_refusal, write_refusal, written}
@@ -73,19 +73,19 @@ shorter a b c h e =
     let j = judged_all b c e in
     rw (j.kind, le-ltb 462 a (omega (arith, j.short)), j.early, j.low, j.once)
 
-reading_ends : (s : List ℕ) → (read_message s).said ≡ says Taken → refusal_of (end_for (contents_at s 0)) (contents_at s 0) ≡ 0
+reading_ends : (s : List ℕ) → (read_message s).said ≡ says (Ok tt) → refusal_of (end_for (contents_at s 0)) (contents_at s 0) ≡ 0
 unfolding refusal_at
 reading_ends s e = shorter (end_for (contents_at s 0)) (end_at s 0) (contents_at s 0) (written_no_later s) (reading_judged s e)
 
 -- what was read from an accepted message is within its limits, and writing it is taken
-pub reading_written : (s room : List ℕ) → length room ≡ 61 → (read_message s).said ≡ says Taken → write_refusal room (contents_at s 0) ≡ 0
+pub reading_written : (s room : List ℕ) → length room ≡ 61 → (read_message s).said ≡ says (Ok tt) → write_refusal room (contents_at s 0) ≡ 0
 reading_written s room long e =
     refuses_content room (contents_at s 0) long
     ∙ ap content_refusal (canon_read s 0)
     ∙ content_ok (contents_at s 0) (reading_ends s e) (read_fits s 0)
 
 -- reading what was written gives again what was read
-pub read_again : (s room : List ℕ) → length room ≡ 61 → (read_message s).said ≡ says Taken → read_message (written room (contents_at s 0)) ≡ read_message s
+pub read_again : (s room : List ℕ) → length room ≡ 61 → (read_message s).said ≡ says (Ok tt) → read_message (written room (contents_at s 0)) ≡ read_message s
 unfolding answer
 read_again s room long e =
     round_trip room (contents_at s 0) (mask_octets (contents_at s 0) (read_octets s)) (reading_written s room long e)
@@ -101,7 +101,7 @@ alike_3 s h l e =
 
 -- and each of its first 462 bits is that of the message read, or 0: reserved bits and blank records are zeroed.
 -- 02, CR 2: biases of a blank are left out, and what follows them moves up, so this is said of messages that are written in as many bits as they were read in
-pub rewritten : (s room : List ℕ) → length room ≡ 61 → (read_message s).said ≡ says Taken → end_for (contents_at s 0) ≡ end_at s 0
+pub rewritten : (s room : List ℕ) → length room ≡ 61 → (read_message s).said ≡ says (Ok tt) → end_for (contents_at s 0) ≡ end_at s 0
     → (j : ℕ) → j < 462 → (bit_at (written room (contents_at s 0)) j ≡ bit_at s j) ⊎ (bit_at (written room (contents_at s 0)) j ≡ 0)
 unfolding contents_at
 rewritten s room long e alike j h =

@@ -1,22 +1,9 @@
-use native.Mathlib.Omega.{arith}
-use Prim.Native.Nat.{◌-◌}
-use mathlib.Core.Path.{◌≡◌, refl, sym, ◌∙◌}
+use mathlib.Core.Path.{sym}
 use Rattle.bits.proofs.RowLaws.{rows_step, rows_none}
 use Rattle.bias_writing.proofs.put_row.Goals as goal
 
 pub loop-i-init : goal.loop-i-init
-loop-i-init c = (omega arith, refl, sym (rows_none _ _ _ _))
-
-pub shape_of-room : goal.shape_of-room
-shape_of-room c = c.loop-i.invariant.1
-
-pub returns : goal.returns
-returns c =
-    let l = c.loop-i in
-    let e : l.i ≡ c.args.n = omega arith in
-    rw e at l.invariant.2
+loop-i-init c = sym (rows_none _ _ _ _)
 
 pub loop-i-preserved : goal.loop-i-preserved
-loop-i-preserved c =
-    let l = c.loop-i in
-    (omega arith, c.put_bias.auto.room ∙ l.invariant.1, rw (rows_step, ← l.invariant.2) c.put_bias.ensures)
+loop-i-preserved c = rw (rows_step, ← c.loop-i.invariant, ← c.nth-b.ensures) c.put_bias.ensures

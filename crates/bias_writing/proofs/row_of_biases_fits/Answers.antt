@@ -1,32 +1,17 @@
-use native.Mathlib.Omega.{arith}
-use Prim.Native.Nat.{◌-◌}
-use mathlib.Core.Path.{◌≡◌, sym, ◌∙◌}
-use mathlib.Core.Bool.{true}
-use lib.ListN.{get_or}
-use Rattle.biases.specs.Biases.{no_bias}
-use Rattle.fitting.proofs.FitLaws.{all_none, all_more, all_miss}
-use Rattle.bias_writing.proofs.EightLaws.{bias_eight}
+use borrow.Author.Rules.{rules}
+use mathlib.Core.Path.{refl, ◌∙◌}
+use Rattle.std.proofs.lemmas.Iterator.{YieldsList-from_slice}
+use Rattle.std.proofs.lemmas.Iterator.Search.{all_from_yields_List}
+use Rattle.biases.specs.Biases.{bias_widths, no_bias}
+use Rattle.biases.specs.declared.Bias.{Bias}
+use Rattle.fitting.specs.Fits.{fits}
+use Rattle.fitting.proofs.FitLaws.{all_fit_each}
+use Rattle.bias_writing.specs.Put.{bias_vals, bias_row}
 use Rattle.bias_writing.proofs.row_of_biases_fits.Goals as goal
-
-pub loop-i-init : goal.loop-i-init
-loop-i-init c = (omega arith, all_none _ _)
 
 pub returns : goal.returns
 returns c =
-    let l = c.loop-i in
-    let e : l.i ≡ 25 = omega arith in
-    sym (rw e at l.invariant.1)
-
-pub returns-then-not-row_fits : goal.returns-then-not-row_fits
-returns-then-not-row_fits c =
-    let l = c.loop-i in
-    let a = c.args in
-    let e = rw c.bias_vals.ensures at c.row_fits.ensures ∙ bias_eight (get_or a.bs l.i no_bias) in
-    sym (all_miss _ _ 25 l.i (omega arith) (sym e ∙ c.if-not-row_fits.true))
-
-pub loop-i-preserved : goal.loop-i-preserved
-loop-i-preserved c =
-    let l = c.loop-i in
-    let a = c.args in
-    let e = rw c.bias_vals.ensures at c.row_fits.ensures ∙ bias_eight (get_or a.bs l.i no_bias) in
-    (omega arith, all_more _ _ l.i l.invariant.1 (sym e ∙ c.if-not-row_fits.false))
+    let bs = c.args.bs.now in
+    let fit = λ (b : Bias). fits bias_widths (bias_vals b) in
+    all_from_yields_List fit _ _ c.all.result c.all.ensures.ran (YieldsList-from_slice bs cc) (λ x b q k. search rules)
+    ∙ all_fit_each bias_widths (bias_row bs) fit bs no_bias 25 (cc) (λ i. refl)

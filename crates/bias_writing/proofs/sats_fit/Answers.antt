@@ -1,28 +1,17 @@
-use native.Mathlib.Omega.{arith}
-use Prim.Native.Nat.{◌-◌}
-use mathlib.Core.Path.{◌≡◌, sym, ◌∙◌}
-use mathlib.Core.Bool.{true}
-use Rattle.fitting.proofs.FitLaws.{all_none, all_more, all_miss}
-use Rattle.bias_writing.proofs.EightLaws.{sat_eight}
+use borrow.Author.Rules.{rules}
+use mathlib.Core.Path.{refl, ◌∙◌}
+use Rattle.std.proofs.lemmas.Iterator.{YieldsList-from_slice}
+use Rattle.std.proofs.lemmas.Iterator.Search.{all_from_yields_List}
+use Rattle.biases.specs.Biases.{sat_widths, blank_sat}
+use Rattle.biases.specs.declared.BiasSat.{BiasSat}
+use Rattle.fitting.specs.Fits.{fits}
+use Rattle.fitting.proofs.FitLaws.{all_fit_each}
+use Rattle.bias_writing.specs.Put.{sat_vals, sat_row}
 use Rattle.bias_writing.proofs.sats_fit.Goals as goal
-
-pub loop-i-init : goal.loop-i-init
-loop-i-init c = (omega arith, all_none _ _)
 
 pub returns : goal.returns
 returns c =
-    let l = c.loop-i in
-    let e : l.i ≡ 31 = omega arith in
-    sym (rw e at l.invariant.1)
-
-pub returns-then-not-row_fits : goal.returns-then-not-row_fits
-returns-then-not-row_fits c =
-    let l = c.loop-i in
-    let e = rw c.sat_vals.ensures at c.row_fits.ensures ∙ sat_eight _ in
-    sym (all_miss _ _ 31 l.i (omega arith) (sym e ∙ c.if-not-row_fits.true))
-
-pub loop-i-preserved : goal.loop-i-preserved
-loop-i-preserved c =
-    let l = c.loop-i in
-    let e = rw c.sat_vals.ensures at c.row_fits.ensures ∙ sat_eight _ in
-    (omega arith, all_more _ _ l.i l.invariant.1 (sym e ∙ c.if-not-row_fits.false))
+    let rs = c.args.rs.now in
+    let fit = λ (r : BiasSat). fits sat_widths (sat_vals r) in
+    all_from_yields_List fit _ _ c.all.result c.all.ensures.ran (YieldsList-from_slice rs cc) (λ x b q k. search rules)
+    ∙ all_fit_each sat_widths (sat_row rs) fit rs blank_sat 31 (cc) (λ i. refl)

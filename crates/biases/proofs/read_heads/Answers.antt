@@ -1,5 +1,5 @@
 use mathlib.Core.Path.{refl}
-use Rattle.bits.specs.Table.{table}
+use Rattle.biases.specs.Biases.{no_biases}
 use native.Mathlib.Omega.{arith}
 use Prim.Native.Nat.{◌+◌}
 use Rattle.bits.proofs.FieldLaws.{field_lt}
@@ -12,5 +12,5 @@ read_sats-sats-requires c =
     (omega arith, omega arith)
 
 pub returns : goal.returns
-unfolding table
-returns c = rw (c.read_sats-sats.ensures, c.get8-count.ensures, c.get8-ssr.ensures, c.get32-epoch.ensures) refl
+unfolding no_biases
+returns c = rw (c.no_biases-none.ensures, c.read_sats-sats.ensures, c.get8-count.ensures, c.get8-ssr.ensures, c.get32-epoch.ensures) refl

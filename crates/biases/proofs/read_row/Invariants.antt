@@ -1,12 +1,9 @@
-use Prim.Native.Nat.{◌-◌, ◌*◌, ◌≤◌}
+use Prim.Native.Nat.{◌*◌, ◌≤◌}
 use mathlib.Core.Path.{◌≡◌}
 use lib.ListN.{length}
 use Rattle.biases.specs.Biases.{sat_place, biases_at, filled, no_bias}
 use Rattle.biases.proofs.read_row.Given as goal
 
-abbrev pub invariant-loop-i : goal.invariant-loop-i
-invariant-loop-i l =
-    (l.i ≤ l.count) × (l.p ≡ sat_place l.s l.at l.i) × (l.used ≡ length (biases_at l.s l.at l.i)) × (l.used ≤ 15 * l.i) × (l.out ≡ filled 25 no_bias (biases_at l.s l.at l.i))
-
-abbrev pub decreases-loop-i : goal.decreases-loop-i
-decreases-loop-i l = l.count - l.i
+abbrev pub invariant-loop : goal.invariant-loop
+invariant-loop l =
+    (l.p ≡ sat_place l.s l.at l.counter) × (l.used ≡ length (biases_at l.s l.at l.counter)) × (l.used ≤ 15 * l.counter) × (l.out ≡ filled 25 no_bias (biases_at l.s l.at l.counter))

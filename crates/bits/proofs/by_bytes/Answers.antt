@@ -22,7 +22,7 @@ more-x-requires c =
     let i = c.loop-left in
     let a = c.args in (
       omega arith,
-      rw (c.least-m.ensures, c.byte_at-b.ensures) (turn_fits a.s.now i.x i.j i.r i.left a.at a.n i.invariant.1 i.invariant.0 i.invariant.4),
+      rw (c.min-m.ensures, c.byte_at-b.ensures) (turn_fits a.s.now i.x i.j i.r i.left a.at a.n i.invariant.1 i.invariant.0 i.invariant.4),
     )
 
 pub loop-left-preserved : goal.loop-left-preserved
@@ -33,7 +33,7 @@ loop-left-preserved c =
       omega arith,
       omega arith,
       omega arith,
-      rw (c.more-x.ensures, c.least-m.ensures, c.byte_at-b.ensures) (sym (turn a.s.now i.x i.j i.r i.left i.invariant.1) ∙ i.invariant.4),
+      rw (c.more-x.ensures, c.min-m.ensures, c.byte_at-b.ensures) (sym (turn a.s.now i.x i.j i.r i.left i.invariant.1) ∙ i.invariant.4),
     )
 
 pub returns : goal.returns

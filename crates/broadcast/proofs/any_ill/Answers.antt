@@ -1,25 +1,16 @@
 use borrow.Author.Rules.{rules}
-use native.Mathlib.Omega.{arith}
-use Prim.Native.Nat.{◌-◌}
-use mathlib.Core.Path.{sym, ◌∙◌, refl}
-use Rattle.bits.proofs.SomeLaws.{some_hit, some_miss, some_end}
-use Rattle.broadcast.specs.Issues.{is_ill}
+use borrow.Author.Tests.{tests}
+use Prim.Native.Nat.{ℕ}
+use mathlib.Core.Bool.{◌&&◌, not}
+use mathlib.Core.Path.{◌∙◌}
+use lib.Dec.{eqb, ltb}
+use Rattle.std.proofs.lemmas.Iterator.{YieldsList-from_slice}
+use Rattle.std.proofs.lemmas.Iterator.Search.{any_from_yields_List}
+use Rattle.bits.proofs.MadeLaws.{any_alone}
 use Rattle.broadcast.proofs.any_ill.Goals as goal
-
-pub loop-i-init : goal.loop-i-init
-loop-i-init c = (search rules, refl)
-
-pub returns-then-x : goal.returns-then-x
-returns-then-x c =
-    let i = c.loop-i in
-    sym (some_hit is_ill _ i.i 0 (omega arith) c.if-x.true) ∙ i.invariant.1
-
-pub loop-i-preserved : goal.loop-i-preserved
-loop-i-preserved c =
-    let i = c.loop-i in
-    (omega arith, sym (some_miss is_ill _ i.i 0 (omega arith) c.if-x.false) ∙ i.invariant.1)
 
 pub returns : goal.returns
 returns c =
-    let i = c.loop-i in
-    sym (some_end is_ill _ i.i (omega arith)) ∙ i.invariant.1
+    let ill = λ (x : ℕ). ltb 1023 x && not (eqb x 65535) in
+    any_from_yields_List ill _ _ c.any.result c.any.ensures.ran (YieldsList-from_slice c.args.is.now cc) (λ x b q k. search (rules, tests))
+    ∙ any_alone ill c.args.is.now

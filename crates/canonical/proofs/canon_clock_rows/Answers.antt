@@ -1,21 +1,8 @@
-use native.Mathlib.Omega.{arith}
-use Prim.Native.Nat.{◌-◌}
-use mathlib.Core.Path.{refl}
-use Rattle.bits.proofs.TableLaws.{fill_start, fill_step, fill_done}
-use Rattle.records.specs.Clock.{blank_clock}
+use borrow.Author.Rules.{rules}
+use Rattle.bits.proofs.MadeLaws.{made_table}
 use Rattle.canonical.specs.Canon.{canon_clock_nth, canon_clock_rows}
 use Rattle.canonical.proofs.canon_clock_rows.Goals as goal
 
-pub loop-i-init : goal.loop-i-init
-loop-i-init c = (omega arith, refl, fill_start _ _)
-
-pub loop-i-preserved : goal.loop-i-preserved
-loop-i-preserved c =
-    let i = c.loop-i in
-    (omega arith, refl, fill_step _ i.i _ _ _ blank_clock (omega arith) i.invariant.2 c.canon_clock_nth.ensures)
-
 pub returns : goal.returns
 unfolding canon_clock_rows
-returns c =
-    let i = c.loop-i in
-    fill_done _ i.i 23 _ _ (omega arith) refl i.invariant.2
+returns c = made_table (canon_clock_nth c.args.slotted c.args.n c.args.ks.now) _ _ _ c.from_fn.ensures.items (λ j y q k. search rules)

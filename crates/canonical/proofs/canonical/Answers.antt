@@ -5,10 +5,10 @@ pub returns : goal.returns
 unfolding canon
 returns c =
     rw (
-      c.canon_code_part-code.ensures,
-      c.canon_bias_part-bias.ensures,
-      c.canon_orbits-orbit.ensures,
-      c.canon_clocks-clock.ensures,
-      c.canon_mask-mask.ensures,
+      c.canon_code_part.ensures,
+      c.canon_bias_part.ensures,
+      c.canon_orbits.ensures,
+      c.canon_clocks.ensures,
+      c.canon_mask.ensures,
       c.layout_of-l.ensures,
     )

@@ -1,21 +1,8 @@
-use native.Mathlib.Omega.{arith}
-use Prim.Native.Nat.{◌-◌}
-use mathlib.Core.Path.{refl}
-use Rattle.bits.proofs.TableLaws.{fill_start, fill_step, fill_done}
-use Rattle.biases.specs.Biases.{blank_sat}
+use borrow.Author.Rules.{rules}
+use Rattle.bits.proofs.MadeLaws.{made_table}
 use Rattle.canonical_biases.specs.Canon.{canon_sat, canon_sats}
 use Rattle.canonical_biases.proofs.canon_sats.Goals as goal
 
-pub loop-i-init : goal.loop-i-init
-loop-i-init c = (omega arith, refl, fill_start _ _)
-
-pub loop-i-preserved : goal.loop-i-preserved
-loop-i-preserved c =
-    let l = c.loop-i in
-    (omega arith, refl, fill_step _ l.i _ _ _ blank_sat (omega arith) l.invariant.2 c.canon_sat.ensures)
-
 pub returns : goal.returns
 unfolding canon_sats
-returns c =
-    let l = c.loop-i in
-    fill_done _ l.i 31 _ _ (omega arith) refl l.invariant.2
+returns c = made_table (canon_sat c.args.n c.args.rs.now) _ _ _ c.from_fn.ensures.items (λ j y q k. search rules)

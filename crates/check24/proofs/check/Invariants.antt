@@ -1,12 +1,9 @@
-use Prim.Native.Nat.{◌+◌, ◌*◌, ◌^◌, ◌<◌}
+use Prim.Native.Nat.{◌+◌, ◌-◌, ◌*◌, ◌/◌, ◌^◌, ◌<◌}
 use mathlib.Core.Path.{◌≡◌}
 use Rattle.bits.specs.Bits.{bits_from}
 use Rattle.check24.specs.Check.{check_bits, check_of}
 use Rattle.check24.proofs.check.Given as goal
 
-abbrev pub invariant-loop-left : goal.invariant-loop-left
-invariant-loop-left l =
-    (check_bits l.r (bits_from l.s l.a (48 * l.left)) ≡ check_of l.s l.at l.n) × (l.a + 48 * l.left ≡ l.at + l.n) × (l.r < 2 ^ 24)
-
-abbrev pub decreases-loop-left : goal.decreases-loop-left
-decreases-loop-left l = l.left
+abbrev pub invariant-loop-k : goal.invariant-loop-k
+invariant-loop-k l =
+    (check_bits l.r (bits_from l.s (l.from + l.first + 48 * l.k) (48 * (l.fn.n / 48 - l.k))) ≡ check_of l.s l.at l.fn.n) × (l.r < 2 ^ 24)

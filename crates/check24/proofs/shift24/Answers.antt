@@ -4,14 +4,10 @@ use Rattle.check24.proofs.EightLaws.{shifted_lt, shifted_add}
 use Rattle.check24.proofs.shift24.Goals as goal
 
 pub shift8-requires-2 : goal.shift8-requires-2
-shift8-requires-2 c =
-    let p = c.requires in
-    (p.0, rw c.shift8.ensures (shifted_lt 8 _ p.1))
+shift8-requires-2 c = rw c.shift8.ensures (shifted_lt 8 _ c.requires)
 
 pub shift8-requires-3 : goal.shift8-requires-3
-shift8-requires-3 c =
-    let p = c.requires in
-    (p.0, rw (c.shift8-2.ensures, c.shift8.ensures) (shifted_lt 8 _ (shifted_lt 8 _ p.1)))
+shift8-requires-3 c = rw (c.shift8-2.ensures, c.shift8.ensures) (shifted_lt 8 _ (shifted_lt 8 _ c.requires))
 
 pub returns : goal.returns
 returns c =

@@ -2,13 +2,12 @@ use native.Mathlib.Omega.{arith}
 use borrow.Author.Tests.{eq-eqb, ne_eqb}
 use mathlib.Core.Path.{◌∙◌}
 use Rattle.bits.proofs.FieldLaws.{got_field}
-use Rattle.contents.specs.Parts.{no_clocks, clocks_in}
-use Rattle.contents.proofs.BlankLaws.{none_read}
+use Rattle.contents.specs.Parts.{clocks_in}
 use Rattle.clock_reading.proofs.clocks_in.Goals as goal
 
 pub returns-then-l-eq0 : goal.returns-then-l-eq0
-unfolding clocks_in no_clocks
-returns-then-l-eq0 c = rw (eq-eqb _ _ c.if-l-eq0.true, c.read_clocks-clocks.ensures, none_read _ _ _ _ c.if-l-eq0.true)
+unfolding clocks_in
+returns-then-l-eq0 c = rw (eq-eqb _ _ c.if-l-eq0.true) c.no_clocks.ensures
 
 pub returns : goal.returns
 unfolding clocks_in

@@ -1,4 +1,4 @@
-use Prim.Native.Nat.{ℕ, ◌+◌, ◌-◌, ◌≤◌, ◌<◌}
+use Prim.Native.Nat.{ℕ, ◌<◌}
 use mathlib.Core.Path.{◌≡◌}
 use mathlib.Core.List.{◌++◌}
 use lib.ListN.{length, drop, get_or}
@@ -9,10 +9,6 @@ use Rattle.clock_reading.proofs.read_clocks.Given as goal
 
 abbrev pub invariant-loop-i : goal.invariant-loop-i
 invariant-loop-i l =
-    (l.i ≤ 23)
-    × (length l.initial.out ≡ 23)
+    (length l.initial.out ≡ 23)
     × ((j : ℕ) → j < 23 → get_or l.initial.out j blank_clock ≡ blank_clock)
     × (l.out ≡ table (clock_nth l.slotted l.s l.at l.count) l.i ++ drop l.i l.initial.out)
-
-abbrev pub decreases-loop-i : goal.decreases-loop-i
-decreases-loop-i l = 23 - l.i

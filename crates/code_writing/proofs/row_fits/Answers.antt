@@ -1,26 +1,18 @@
-use native.Mathlib.Omega.{arith}
-use Prim.Native.Nat.{◌-◌}
-use mathlib.Core.Path.{◌≡◌, sym}
-use mathlib.Core.Bool.{true}
-use Rattle.fitting.proofs.FitLaws.{all_none, all_more, all_miss}
-use Rattle.code_writing.proofs.CodeLaws.{code_fits, code_wide}
+use borrow.Author.Rules.{rules}
+use borrow.Author.Tests.{tests}
+use Prim.Native.Nat.{ℕ}
+use mathlib.Core.Path.{◌∙◌}
+use lib.Dec.{ltb}
+use Rattle.std.proofs.lemmas.Iterator.{YieldsList-from_slice}
+use Rattle.std.proofs.lemmas.Iterator.Search.{all_from_yields_List}
+use Rattle.fitting.proofs.FitLaws.{all_fit_each}
+use Rattle.code_writing.specs.Codes.{code_widths, code_row}
+use Rattle.code_writing.proofs.CodeLaws.{code_fits}
 use Rattle.code_writing.proofs.row_fits.Goals as goal
-
-pub loop-i-init : goal.loop-i-init
-loop-i-init c = (omega arith, all_none _ _)
-
-pub returns-then-codes-i-gt63 : goal.returns-then-codes-i-gt63
-returns-then-codes-i-gt63 c =
-    let l = c.loop-i in
-    sym (all_miss _ _ 70 l.i (omega arith) (code_wide _ c.if-codes-i-gt63.true))
-
-pub loop-i-preserved : goal.loop-i-preserved
-loop-i-preserved c =
-    let l = c.loop-i in
-    (omega arith, all_more _ _ l.i l.invariant.1 (code_fits _ c.if-codes-i-gt63.false))
 
 pub returns : goal.returns
 returns c =
-    let l = c.loop-i in
-    let e : l.i ≡ 70 = omega arith in
-    sym (rw e at l.invariant.1)
+    let codes = c.args.codes.now in
+    let six = λ (x : ℕ). ltb x 64 in
+    all_from_yields_List six _ _ c.all.result c.all.ensures.ran (YieldsList-from_slice codes cc) (λ x b q k. search (rules, tests))
+    ∙ all_fit_each code_widths (code_row codes) six codes 0 70 (cc) (λ i. code_fits _)

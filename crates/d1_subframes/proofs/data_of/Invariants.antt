@@ -1,4 +1,3 @@
-use Prim.Native.Nat.{◌-◌, ◌≤◌}
 use mathlib.Core.Path.{◌≡◌}
 use lib.ListN.{length, drop}
 use Rattle.bits.specs.Bits.{puts_at}
@@ -7,7 +6,4 @@ use Rattle.d1_subframes.proofs.data_of.Given as goal
 
 abbrev pub invariant-loop-i : goal.invariant-loop-i
 invariant-loop-i l =
-    (l.i ≤ 10) × (length l.out ≡ 28) × (puts_at l.out (offset_of l.i) (drop l.i info_widths) (drop l.i (infos_of l.s)) ≡ data_of l.s)
-
-abbrev pub decreases-loop-i : goal.decreases-loop-i
-decreases-loop-i l = 10 - l.i
+    (length l.out ≡ 28) × (puts_at l.out (offset_of l.i) (drop l.i info_widths) (drop l.i (infos_of l.s)) ≡ data_of l.s)

@@ -6,23 +6,17 @@ use Rattle.d1_words.proofs.OverLaws.{over_start, over_turn, over_all, register_l
 use Rattle.d1_words.proofs.remainder.Goals as goal
 
 pub loop-k-init : goal.loop-k-init
-loop-k-init c = (omega arith, over_start _ _ _)
-
-pub overflow_sub-k : goal.overflow_sub-k
-overflow_sub-k c = omega arith
-
-pub overflow_shr-w : goal.overflow_shr-w
-overflow_shr-w c = omega arith
+loop-k-init c = over_start _ _ _
 
 pub shift-r-requires : goal.shift-r-requires
-shift-r-requires c = (rw c.loop-k.invariant.1 (register_lt _ _), omega arith)
+shift-r-requires c = (rw c.loop-k.invariant (register_lt _ _), omega arith)
 
 pub loop-k-preserved : goal.loop-k-preserved
 loop-k-preserved c =
     let l = c.loop-k in
-    (omega arith, rw (c.shift-r.ensures, l.invariant.1) (over_turn 1 word_shifted _ _ l.k (l.k - 1) _ (omega arith) (omega arith)))
+    rw (c.shift-r.ensures, l.invariant) (over_turn 1 word_shifted _ _ l.k (l.k - 1) _ (omega arith) (omega arith))
 
 pub returns : goal.returns
 unfolding remainder_of
 returns c =
-    let l = c.loop-k in l.invariant.1 ∙ over_all 1 word_shifted (15 - l.k) 15 l.k _ (omega arith) (omega arith)
+    let l = c.loop-k in l.invariant ∙ over_all 1 word_shifted (15 - l.k) 15 l.k _ (omega arith) (omega arith)

@@ -1,24 +1,16 @@
-use native.Mathlib.Omega.{arith}
-use Prim.Native.Nat.{◌-◌}
-use mathlib.Core.Path.{sym, ◌∙◌}
-use Rattle.fitting.proofs.FitLaws.{fits_step, fits_end}
+use borrow.Author.Rules.{rules}
+use borrow.Author.Tests.{tests}
+use Prim.Native.Nat.{ℕ, ◌^◌}
+use mathlib.Core.Path.{◌∙◌}
+use lib.Dec.{ltb}
+use Rattle.std.proofs.lemmas.Iterator.{YieldsList-from_slice, YieldsList-from_zip}
+use Rattle.std.proofs.lemmas.Iterator.Search.{all_from_yields_List}
+use Rattle.fitting.proofs.FitLaws.{fits_pairs}
 use Rattle.fitting.proofs.row_fits.Goals as goal
 
 pub returns : goal.returns
 returns c =
-    let l = c.loop-i in
-    sym (fits_end _ _ l.i (omega arith)) ∙ l.invariant.3
-
-pub returns-then-not-one_fits : goal.returns-then-not-one_fits
-returns-then-not-one_fits c =
     let a = c.args in
-    let i = c.loop-i in
-    let step = fits_step a.ws a.vs i.i (omega arith) (omega arith) in
-    sym (sym i.invariant.3 ∙ step ∙ rw (sym c.one_fits.ensures ∙ c.if-not-one_fits.true))
-
-pub loop-i-preserved : goal.loop-i-preserved
-loop-i-preserved c =
-    let a = c.args in
-    let i = c.loop-i in
-    let step = fits_step a.ws a.vs i.i (omega arith) (omega arith) in
-    (omega arith, i.invariant.1, i.invariant.2, sym (step ∙ rw (sym c.one_fits.ensures ∙ c.if-not-one_fits.false)) ∙ i.invariant.3)
+    all_from_yields_List (λ (p : ℕ × ℕ). ltb p.1 (2 ^ p.0)) c.all.new.self _ c.all.result c.all.ensures.ran
+    (YieldsList-from_zip (YieldsList-from_slice a.ws cc) (YieldsList-from_slice a.vs cc)) (λ x b q k. search (rules, tests))
+    ∙ fits_pairs a.ws a.vs

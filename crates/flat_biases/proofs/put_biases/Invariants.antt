@@ -1,17 +1,8 @@
-use borrow.Author.Rules.{rules}
-use native.Mathlib.Omega.{arith}
-use Prim.Native.Nat.{◌-◌, ◌≤◌}
-use mathlib.Core.Path.{◌≡◌, ◌∙◌, refl}
-use lib.ListN.{length}
+use mathlib.Core.Path.{◌≡◌}
 use Rattle.bits.specs.Bytes.{store_at}
 use Rattle.flat_numbers.specs.Rows.{rows_to}
 use Rattle.flat_biases.specs.Biases.{flat_bias_row}
-use Rattle.flat_numbers.proofs.RowLaws.{rows_start, rows_next}
 use Rattle.flat_biases.proofs.put_biases.Given as goal
 
 abbrev pub invariant-loop-i : goal.invariant-loop-i
-invariant-loop-i l =
-    (l.i ≤ 25) × (length l.room ≡ length l.initial.room) × (l.room ≡ store_at l.initial.room 364 (rows_to (flat_bias_row l.bs) l.i))
-
-abbrev pub decreases-loop-i : goal.decreases-loop-i
-decreases-loop-i l = 25 - l.i
+invariant-loop-i l = l.room ≡ store_at l.initial.room 364 (rows_to (flat_bias_row l.bs) l.i)

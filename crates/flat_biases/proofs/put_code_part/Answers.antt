@@ -8,4 +8,4 @@ pub returns : goal.returns
 returns c =
     let a = c.args in
     let long : length a.u.codes ≡ 70 = let g = c.type_inv in search rules in
-    rw (c.store-2.ensures, c.store.ensures, c.code_head-head.ensures) (codes_two a.room.now a.u long)
+    rw (c.store-2.ensures, c.store.ensures, c.code_head.ensures) (codes_two a.room.now a.u long)

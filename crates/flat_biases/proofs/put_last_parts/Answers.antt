@@ -1,4 +1,3 @@
-use borrow.Author.Rules.{rules}
 use Rattle.flat_biases.proofs.FlatLaws.{last_two}
 use Rattle.flat_biases.proofs.put_last_parts.Goals as goal
 

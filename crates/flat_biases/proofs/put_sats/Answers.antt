@@ -1,28 +1,13 @@
-use borrow.Author.Rules.{rules}
-use native.Mathlib.Omega.{arith}
-use Prim.Native.Nat.{◌-◌, ◌≤◌}
-use mathlib.Core.Path.{◌≡◌, ◌∙◌, refl}
-use lib.ListN.{length}
-use Rattle.bits.specs.Bytes.{store_at}
-use Rattle.flat_numbers.specs.Rows.{rows_to}
+use mathlib.Core.Path.{refl}
 use Rattle.flat_biases.specs.Biases.{flat_sat_row}
 use Rattle.flat_numbers.proofs.RowLaws.{rows_start, rows_next}
 use Rattle.flat_biases.proofs.put_sats.Goals as goal
 
-pub returns : goal.returns
-returns c =
-    let l = c.loop-i in
-    let e : l.i ≡ 31 = omega arith in
-    rw e at l.invariant.2
-
 pub loop-i-init : goal.loop-i-init
-loop-i-init c = let a = c.args in (omega arith, refl, rows_start (flat_sat_row a.rs) 3 (λ i. refl) a.room.now 271)
+loop-i-init c = let a = c.args in rows_start (flat_sat_row a.rs.now) 3 (λ i. refl) a.room.now 271
 
 pub loop-i-preserved : goal.loop-i-preserved
 loop-i-preserved c =
     let l = c.loop-i in
-    let a = c.args in (
-      omega arith,
-      c.put_sat.auto.room ∙ l.invariant.1,
-      c.put_sat.ensures ∙ rows_next (flat_sat_row a.rs) 3 (λ i. refl) a.room.now l.room 271 l.i _ l.invariant.2 refl,
-    )
+    let a = c.args in
+    rw (c.store.ensures, c.sat_bytes.ensures) (rows_next (flat_sat_row a.rs.now) 3 (λ i. refl) a.room.now l.room 271 l.i _ l.invariant refl)

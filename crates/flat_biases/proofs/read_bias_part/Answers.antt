@@ -1,4 +1,3 @@
-use borrow.Author.Rules.{rules}
 use Rattle.flat_biases.specs.Biases.{flat_biases_in}
 use Rattle.flat_biases.proofs.read_bias_part.Goals as goal
 

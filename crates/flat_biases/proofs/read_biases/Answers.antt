@@ -1,26 +1,8 @@
 use borrow.Author.Rules.{rules}
-use native.Mathlib.Omega.{arith}
-use Prim.Native.Nat.{◌-◌, ◌≤◌}
-use mathlib.Core.Path.{◌≡◌, refl}
-use lib.ListN.{length}
-use mathlib.Core.List.{◌++◌}
-use lib.ListN.{drop}
-use Rattle.bits.specs.Table.{table}
-use Rattle.bits.proofs.TableLaws.{fill_start, fill_step, fill_done}
-use Rattle.biases.specs.Biases.{no_bias}
+use Rattle.bits.proofs.MadeLaws.{made_table}
 use Rattle.flat_biases.specs.Biases.{flat_bias_nth, flat_biases_at}
 use Rattle.flat_biases.proofs.read_biases.Goals as goal
 
-pub loop-i-init : goal.loop-i-init
-loop-i-init c = (omega arith, refl, fill_start _ _)
-
-pub loop-i-preserved : goal.loop-i-preserved
-loop-i-preserved c =
-    let l = c.loop-i in
-    (omega arith, refl, fill_step _ l.i _ _ _ no_bias (omega arith) l.invariant.2 c.read_bias.ensures)
-
 pub returns : goal.returns
 unfolding flat_biases_at
-returns c =
-    let l = c.loop-i in
-    fill_done _ l.i 25 _ _ (omega arith) refl l.invariant.2
+returns c = made_table (flat_bias_nth c.args.t.now) _ _ _ c.from_fn.ensures.items (λ j y q k. search rules)

@@ -1,4 +1,3 @@
-use borrow.Author.Rules.{rules}
 use Rattle.flat_biases.specs.Codes.{flat_codes_in}
 use Rattle.flat_biases.proofs.read_code_part.Goals as goal
 

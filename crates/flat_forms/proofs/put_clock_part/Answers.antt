@@ -1,4 +1,3 @@
-use borrow.Author.Rules.{rules}
 use Rattle.flat_forms.proofs.FlatLaws.{clocks_two}
 use Rattle.flat_forms.proofs.put_clock_part.Goals as goal
 

@@ -1,4 +1,3 @@
-use borrow.Author.Rules.{rules}
 use Rattle.flat_forms.proofs.FlatLaws.{contents_four}
 use Rattle.flat_forms.proofs.put_contents.Goals as goal
 

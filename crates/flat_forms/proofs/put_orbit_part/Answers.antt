@@ -1,4 +1,3 @@
-use borrow.Author.Rules.{rules}
 use Rattle.flat_forms.proofs.FlatLaws.{orbits_two}
 use Rattle.flat_forms.proofs.put_orbit_part.Goals as goal
 

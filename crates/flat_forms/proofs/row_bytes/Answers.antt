@@ -1,7 +1,9 @@
 use borrow.Author.Rules.{rules}
+use Prim.Native.Nat.{◌<◌}
 use mathlib.Core.Path.{◌≡◌, ap, ◌∙◌}
 use mir.Syntax.{w32}
 use mir.Val.{to_z, of_z}
+use Rattle.flat_numbers.proofs.DigitLaws.{quads, two_bytes, four_bytes}
 use Rattle.flat_forms.specs.Write.{long}
 use Rattle.flat_forms.proofs.FlatLaws.{row_same}
 use Rattle.flat_forms.proofs.row_bytes.Goals as goal
@@ -10,16 +12,17 @@ use Rattle.flat_forms.proofs.row_bytes.Goals as goal
 pub returns : goal.returns
 returns c =
     let r = c.args.r in
+    let iodn : r.iodn < 65536 = search rules in
     let radial : to_z w32 (of_z w32 r.radial) ≡ r.radial = search rules in
     let along : to_z w32 (of_z w32 r.along) ≡ r.along = search rules in
     let cross : to_z w32 (of_z w32 r.cross) ≡ r.cross = search rules in
     let clock : to_z w32 (of_z w32 r.clock) ≡ r.clock = search rules in
-    row_same r.slot.0 r.number r.iodn r.corr
-    _ _ _ _ _ _ _ _ _ _ _ _ _ _
+    row_same r.slot.0 r.number r.corr
     c.system_number-s.ensures
-    (c.raw32-ra.ensures ∙ ap long radial)
-    (c.raw32-al.ensures ∙ ap long along)
-    (c.raw32-cr.ensures ∙ ap long cross)
-    (c.raw32-ck.ensures ∙ ap long clock)
-    c.ura_kind-k.ensures
-    c.ura_quarters-q.ensures
+    (c.to_be_bytes.ensures ∙ two_bytes r.iodn iodn)
+    (c.to_be_bytes-2.ensures ∙ four_bytes c.raw32.result c.raw32.type_inv ∙ ap quads (c.raw32.ensures ∙ ap long radial))
+    (c.to_be_bytes-3.ensures ∙ four_bytes c.raw32-2.result c.raw32-2.type_inv ∙ ap quads (c.raw32-2.ensures ∙ ap long along))
+    (c.to_be_bytes-4.ensures ∙ four_bytes c.raw32-3.result c.raw32-3.type_inv ∙ ap quads (c.raw32-3.ensures ∙ ap long cross))
+    (c.to_be_bytes-5.ensures ∙ four_bytes c.raw32-4.result c.raw32-4.type_inv ∙ ap quads (c.raw32-4.ensures ∙ ap long clock))
+    c.ura_kind-u.ensures
+    (c.to_be_bytes-6.ensures ∙ four_bytes c.ura_quarters.result c.ura_quarters.type_inv ∙ ap quads c.ura_quarters.ensures)

@@ -10,21 +10,15 @@ use Rattle.flat_subframe2.specs.Write.{flat_field, fields_bytes}
 use Rattle.flat_subframe2.proofs.put_fields.Goals as goal
 
 pub loop-i-init : goal.loop-i-init
-loop-i-init c = let a = c.args in (omega arith, refl, rows_start (flat_field a.fields) 8 (λ i. refl) a.room.now 0)
+loop-i-init c = let a = c.args in rows_start (flat_field a.fields) 8 (λ i. refl) a.room.now 0
 
 pub loop-i-preserved : goal.loop-i-preserved
 loop-i-preserved c =
     let l = c.loop-i in
     let a = c.args in
-    let z : to_z w64 (of_z w64 (get_or a.fields l.i (pos 0))) ≡ get_or a.fields l.i (pos 0) = search rules in (
-      omega arith,
-      c.put_field.auto.room ∙ l.invariant.1,
-      c.put_field.ensures ∙ rw z (rows_next (flat_field a.fields) 8 (λ i. refl) a.room.now l.room 0 l.i _ l.invariant.2 (omega arith)),
-    )
+    let z : to_z w64 (of_z w64 (get_or a.fields l.i (pos 0))) ≡ get_or a.fields l.i (pos 0) = search rules in
+    c.put_field.ensures ∙ rw z (rows_next (flat_field a.fields) 8 (λ i. refl) a.room.now l.room 0 l.i _ l.invariant (omega arith))
 
 pub returns : goal.returns
 unfolding fields_bytes
-returns c =
-    let l = c.loop-i in
-    let e : l.i ≡ 31 = omega arith in
-    rw e at l.invariant.2
+returns c = search rules

@@ -1,4 +1,3 @@
-use borrow.Author.Rules.{rules}
 use Rattle.frame.proofs.shell_for.Goals as goal
 
 pub returns : goal.returns

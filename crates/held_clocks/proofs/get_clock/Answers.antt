@@ -8,13 +8,13 @@ use Rattle.held_clocks.proofs.get_clock.Goals as goal
 pub returns-then-byte-ne1 : goal.returns-then-byte-ne1
 returns-then-byte-ne1 c =
     let a = c.args in
-    let e = c.clock_offset-at.ensures in
+    let e = c.offset-at.ensures in
     c.no_clock.ensures ∙ clock_none a.t.now a.slot.0 _ e (rw c.byte.ensures at c.if-byte-ne1.true)
 
 pub returns : goal.returns
 returns c =
     let a = c.args in
-    let p = c.clock_offset-at in
+    let p = c.offset-at in
     let d = c.byte-placed in
     let f = c.four-epoch in
     let n = c.if-byte-ne1.false in

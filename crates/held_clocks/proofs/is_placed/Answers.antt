@@ -4,4 +4,4 @@ use Rattle.held_clocks.proofs.is_placed.Goals as goal
 pub returns : goal.returns
 returns c =
     let a = c.args in
-    rw (c.byte-2.ensures, c.byte.ensures) (clock_placed a.t.now a.slot.0 _ c.clock_offset-at.ensures)
+    rw (c.byte-2.ensures, c.byte.ensures) (clock_placed a.t.now a.slot.0 _ c.offset-at.ensures)

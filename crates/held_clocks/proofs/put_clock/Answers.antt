@@ -11,4 +11,4 @@ returns-then-slot-eq0 c = sym (put_none held_clock_of held_clock_bytes 12 clock_
 pub returns : goal.returns
 returns c =
     let a = c.args in
-    rw (c.store.ensures, c.clock_offset-at.ensures, c.clock_bytes-b.ensures) (sym (put_slot held_clock_of held_clock_bytes 12 clock_long a.t.now 36 a.slot.0 a.h (omega arith) (omega arith)))
+    rw (c.store.ensures, c.offset.ensures, c.clock_bytes.ensures) (sym (put_slot held_clock_of held_clock_bytes 12 clock_long a.t.now 36 a.slot.0 a.h (omega arith) (omega arith)))

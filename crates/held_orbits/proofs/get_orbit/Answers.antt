@@ -11,13 +11,13 @@ use Rattle.held_orbits.proofs.get_orbit.Goals as goal
 pub returns-then-byte-ne1 : goal.returns-then-byte-ne1
 returns-then-byte-ne1 c =
     let a = c.args in
-    let e = c.orbit_offset-at.ensures in
+    let e = c.offset-at.ensures in
     c.no_orbit.ensures ∙ orbit_none a.t.now a.slot.0 _ e (rw c.byte.ensures at c.if-byte-ne1.true)
 
 pub returns : goal.returns
 returns c =
     let a = c.args in
-    let p = c.orbit_offset-at in
+    let p = c.offset-at in
     let b = c.byte in
     let n = c.if-byte-ne1.false in
     let radial : to_z w16 (of_z w16 c.zag-radial.result) ≡ c.zag-radial.result = search rules in

@@ -9,23 +9,22 @@ use Rattle.in_force.specs.Bytes.{kept_orbit}
 use Rattle.in_force.proofs.KeptLaws.{kept_orbit_named}
 use Rattle.keeping.proofs.orbits_by_slot.Goals as goal
 
-pub loop-j-init : goal.loop-j-init
-loop-j-init c = (omega arith, search (rules, length_mapped), refl, refl)
+pub loop-o-init : goal.loop-o-init
+loop-o-init c = (search (rules, length_mapped), refl, refl)
 
-pub loop-j-preserved : goal.loop-j-preserved
-loop-j-preserved c =
-    let l = c.loop-j in
+pub loop-o-preserved : goal.loop-o-preserved
+loop-o-preserved c =
+    let l = c.loop-o in
     let p = c.args.p in
     let put = rw (c.held_orbit-h.ensures, c.slot_named.ensures) at c.keep_orbit.ensures in (
-      omega arith,
-      l.invariant.1,
-      c.keep_orbit.auto.t ∙ l.invariant.2,
-      rw put (sym (slot_step kept_orbit (held_orbit p.epoch p.ssr) p.orbits l.j blank_orbit l.t (λ (o : Orbit). o.slot) (kept_orbit_named l.t) (omega arith)) ∙ l.invariant.3),
+      l.invariant.0,
+      c.keep_orbit.auto.t ∙ l.invariant.1,
+      rw put (sym (slot_step kept_orbit (held_orbit p.epoch p.ssr) p.orbits l.o-index blank_orbit l.t (λ (o : Orbit). o.slot) (kept_orbit_named l.t) (omega arith)) ∙ l.invariant.2),
     )
 
 pub returns : goal.returns
 unfolding orbits_of
 returns c =
-    let l = c.loop-j in
+    let l = c.loop-o in
     let p = c.args.p in
-    sym (slot_end kept_orbit (held_orbit p.epoch p.ssr) p.orbits l.j blank_orbit l.t (λ (o : Orbit). o.slot) (omega arith)) ∙ l.invariant.3
+    sym (slot_end kept_orbit (held_orbit p.epoch p.ssr) p.orbits l.o-index blank_orbit l.t (λ (o : Orbit). o.slot) (omega arith)) ∙ l.invariant.2

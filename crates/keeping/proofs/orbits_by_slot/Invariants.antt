@@ -1,4 +1,3 @@
-use Prim.Native.Nat.{◌-◌, ◌≤◌}
 use mathlib.Core.Path.{◌≡◌}
 use lib.ListN.{length, drop}
 use Rattle.records.specs.declared.orbit.Orbit.{Orbit}
@@ -6,9 +5,6 @@ use Rattle.places.specs.Keeps.{held_orbit, by_slot}
 use Rattle.in_force.specs.Bytes.{kept_orbits}
 use Rattle.keeping.proofs.orbits_by_slot.Given as goal
 
-abbrev pub invariant-loop-j : goal.invariant-loop-j
-invariant-loop-j l =
-    (l.j ≤ 6) × (length l.p.orbits ≡ 6) × (length l.t ≡ length l.initial.t) × (kept_orbits l.t (by_slot (λ (o : Orbit). o.slot) (held_orbit l.p.epoch l.p.ssr) (drop l.j l.p.orbits)) ≡ kept_orbits l.initial.t (by_slot (λ (o : Orbit). o.slot) (held_orbit l.p.epoch l.p.ssr) l.p.orbits))
-
-abbrev pub decreases-loop-j : goal.decreases-loop-j
-decreases-loop-j l = 6 - l.j
+abbrev pub invariant-loop-o : goal.invariant-loop-o
+invariant-loop-o l =
+    (length l.fn.p.orbits ≡ 6) × (length l.t ≡ length l.initial.t) × (kept_orbits l.t (by_slot (λ (o : Orbit). o.slot) (held_orbit l.fn.p.epoch l.fn.p.ssr) (drop l.o-index l.fn.p.orbits)) ≡ kept_orbits l.initial.t (by_slot (λ (o : Orbit). o.slot) (held_orbit l.fn.p.epoch l.fn.p.ssr) l.fn.p.orbits))

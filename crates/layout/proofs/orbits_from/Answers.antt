@@ -1,7 +1,5 @@
 use mathlib.Core.Path.{sym}
 use Rattle.layout.proofs.LayoutLaws.{from_none}
-use Rattle.layout.proofs.orbits_from.Lts as lts
-use Rattle.layout.proofs.orbits_from.Reads as reads
 use Rattle.layout.proofs.orbits_from.Goals as goal
 
 -- the width of a clock record, and that of all of them

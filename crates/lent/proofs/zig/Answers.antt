@@ -7,7 +7,6 @@ use lib.Signed.{lt_z}
 use mir.Syntax.{w16}
 use mir.Val.{SFits, Fits}
 use Rattle.bits.proofs.SignLaws.{not_neg}
-use Rattle.lent.proofs.zig.Goals as goal
 
 zig-fits : (z : ℤ) → SFits w16 z → lt_z z (pos 0) ≡ false → Fits w16 (2 * nat_abs z)
 zig-fits (pos x) f e = omega (arith, f.sfits)

@@ -1,4 +1,3 @@
-use borrow.Author.Rules.{rules}
 use borrow.Author.Tests.{eq-eqb, ne_eqb}
 use Rattle.making.specs.Units.{unit_byte, frame_byte}
 use Rattle.making.proofs.byte_of.Goals as goal
@@ -13,4 +12,4 @@ returns-then-j-eq1 c = rw (ne_eqb _ _ c.if-j-eq0.false, eq-eqb _ _ c.if-j-eq1.tr
 
 pub returns : goal.returns
 unfolding frame_byte unit_byte
-returns c = rw (ne_eqb _ _ c.if-j-eq0.false, ne_eqb _ _ c.if-j-eq1.false, c.wide-2.ensures.0, c.wide.ensures.0)
+returns c = rw (ne_eqb _ _ c.if-j-eq0.false, ne_eqb _ _ c.if-j-eq1.false, c.from-2.ensures, c.from.ensures)

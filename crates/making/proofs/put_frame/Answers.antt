@@ -1,4 +1,3 @@
-use borrow.Author.Rules.{rules}
 use Rattle.making.proofs.MakeLaws.{made_frame}
 use Rattle.making.proofs.put_frame.Goals as goal
 

@@ -1,20 +1,25 @@
-use borrow.Author.Rules.{rules}
-use borrow.Author.Tests.{eq-eqb, ne_eqb, lt-ltb, le-ltb}
+use native.Mathlib.Omega.{arith}
+use mathlib.Core.Path.{refl}
+use borrow.Author.Tests.{ne_eqb, lt-ltb, le-ltb}
 use Rattle.making.specs.Units.{unit_of}
 use Rattle.making.proofs.unit_of.Goals as goal
 
-pub returns-then-k-eq0 : goal.returns-then-k-eq0
+pub returns-in-0 : goal.returns-in-0
 unfolding unit_of
-returns-then-k-eq0 c = rw (eq-eqb _ _ c.if-k-eq0.true)
+returns-in-0 c = rw c.in-0.is refl
 
-pub returns-then-k-eq1 : goal.returns-then-k-eq1
+pub returns-in-1 : goal.returns-in-1
 unfolding unit_of
-returns-then-k-eq1 c = rw (ne_eqb _ _ c.if-k-eq0.false, eq-eqb _ _ c.if-k-eq1.true)
+returns-in-1 c = rw c.in-1.is refl
 
-pub returns-then-k-lt83 : goal.returns-then-k-lt83
+pub returns-in-2-to-82 : goal.returns-in-2-to-82
 unfolding unit_of
-returns-then-k-lt83 c = rw (ne_eqb _ _ c.if-k-eq0.false, ne_eqb _ _ c.if-k-eq1.false, lt-ltb _ _ c.if-k-lt83.true)
+returns-in-2-to-82 c =
+    let k = c.args.k in
+    rw (ne_eqb k 0 (λ q. omega arith), ne_eqb k 1 (λ q. omega arith), lt-ltb k 83 (omega arith))
 
-pub returns : goal.returns
+pub returns-in_default : goal.returns-in_default
 unfolding unit_of
-returns c = rw (ne_eqb _ _ c.if-k-eq0.false, ne_eqb _ _ c.if-k-eq1.false, le-ltb _ _ c.if-k-lt83.false)
+returns-in_default c =
+    let k = c.args.k in
+    rw (ne_eqb k 0 (λ q. omega arith), ne_eqb k 1 (λ q. omega arith), le-ltb k 83 (omega arith))

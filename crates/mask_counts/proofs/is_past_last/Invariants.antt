@@ -1,4 +1,4 @@
-use Prim.Native.Nat.{◌+◌, ◌*◌, ◌-◌, ◌≤◌}
+use Prim.Native.Nat.{◌+◌, ◌*◌, ◌≤◌}
 use mathlib.Core.Path.{◌≡◌}
 use lib.ListN.{drop}
 use Rattle.slots.specs.Slots.{set_count}
@@ -7,7 +7,4 @@ use Rattle.mask_counts.proofs.is_past_last.Given as goal
 
 abbrev pub invariant-loop-i : goal.invariant-loop-i
 invariant-loop-i l =
-    (l.i ≤ 5) × (l.n ≤ 51 * l.i) × (l.n + set_count (drop (51 * l.i) (bits_at l.t)) ≡ set_count (bits_at l.t))
-
-abbrev pub decreases-loop-i : goal.decreases-loop-i
-decreases-loop-i l = 5 - l.i
+    (l.n ≤ 51 * l.i) × (l.n + set_count (drop (51 * l.i) (bits_at l.t)) ≡ set_count (bits_at l.t))

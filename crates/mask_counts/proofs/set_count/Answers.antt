@@ -7,7 +7,7 @@ use Rattle.mask_bits.proofs.BitLaws.{length_bits, count_few, count_many}
 use Rattle.mask_counts.proofs.set_count.Goals as goal
 
 pub loop-k-init : goal.loop-k-init
-loop-k-init c = (omega arith, omega arith, omega arith)
+loop-k-init c = (omega arith, omega arith)
 
 pub overflow_add-n : goal.overflow_add-n
 overflow_add-n c =
@@ -22,11 +22,11 @@ loop-k-preserved c =
     let f = c.ones_in_fifth-n in
     let e : 51 * (l.k + 1) ≡ 51 * l.k + 51 = omega arith in
     let turn = count_many t (51 * l.k) 51 f.result (omega arith) f.ensures in
-    (omega arith, omega (arith, count_few t (32 + 51 * l.k) 51), rw e (omega (arith, turn, l.invariant.2)))
+    (omega (arith, count_few t (32 + 51 * l.k) 51), rw e (omega (arith, turn, l.invariant.1)))
 
 pub returns : goal.returns
 returns c =
     let l = c.loop-k in
     let t = c.args.t.now in
     let e : 51 * l.k ≡ 255 = omega arith in
-    omega (arith, l.invariant.2, count_end (bits_at t) (51 * l.k) (omega (arith, length_bits t)))
+    omega (arith, l.invariant.1, count_end (bits_at t) (51 * l.k) (omega (arith, length_bits t)))

@@ -1,4 +1,4 @@
-use Prim.Native.Nat.{◌+◌, ◌*◌, ◌-◌, ◌≤◌}
+use Prim.Native.Nat.{◌+◌, ◌*◌, ◌≤◌}
 use mathlib.Core.Path.{◌≡◌}
 use lib.ListN.{drop}
 use Rattle.slots.specs.Slots.{set_count}
@@ -7,7 +7,4 @@ use Rattle.mask_counts.proofs.set_count.Given as goal
 
 abbrev pub invariant-loop-k : goal.invariant-loop-k
 invariant-loop-k l =
-    (l.k ≤ 5) × (l.n ≤ 51 * l.k) × (l.n + set_count (drop (51 * l.k) (bits_at l.t)) ≡ set_count (bits_at l.t))
-
-abbrev pub decreases-loop-k : goal.decreases-loop-k
-decreases-loop-k l = 5 - l.k
+    (l.n ≤ 51 * l.k) × (l.n + set_count (drop (51 * l.k) (bits_at l.t)) ≡ set_count (bits_at l.t))

@@ -1,20 +1,8 @@
-use native.Mathlib.Omega.{arith}
-use Prim.Native.Nat.{◌-◌}
-use mathlib.Core.Path.{refl}
-use Rattle.bits.proofs.TableLaws.{fill_start, fill_step, fill_done}
-use Rattle.contents.specs.Parts.{mask_bytes_at}
+use borrow.Author.Rules.{rules}
+use Rattle.bits.proofs.MadeLaws.{made_table}
+use Rattle.contents.specs.Parts.{mask_bytes_at, mask_byte_at}
 use Rattle.mask_reading.proofs.read_mask_bytes.Goals as goal
-
-pub loop-j-init : goal.loop-j-init
-loop-j-init c = (omega arith, refl, fill_start _ _)
-
-pub loop-j-preserved : goal.loop-j-preserved
-loop-j-preserved c =
-    let l = c.loop-j in
-    (omega arith, refl, fill_step _ l.j _ _ _ 0 (omega arith) l.invariant.2 c.mask_byte.ensures)
 
 pub returns : goal.returns
 unfolding mask_bytes_at
-returns c =
-    let l = c.loop-j in
-    fill_done _ l.j 32 _ _ (omega arith) refl l.invariant.2
+returns c = made_table (mask_byte_at c.args.s.now c.args.at) _ _ _ c.from_fn.ensures.items (λ j y q k. search rules)

@@ -1,3 +1,4 @@
+use borrow.Author.Tests.{le-ltb}
 use native.Mathlib.Omega.{arith}
 use mathlib.Core.Path.{sym}
 use mathlib.Core.Bool.{false}
@@ -11,7 +12,7 @@ returns-then-i-lt255 c =
     let a = c.args in
     rw c.bit.ensures (sym (bit_at_lem a.t.now a.i (omega arith)))
 
-pub returns : goal.returns
-returns c =
+pub returns-else-i-lt255 : goal.returns-else-i-lt255
+returns-else-i-lt255 c =
     let a = c.args in
-    sym (get_or-eq_default (bits_at a.t.now) false (omega (arith, length_bits a.t.now)))
+    rw (le-ltb a.i 255 c.if-i-lt255.false) (sym (get_or-eq_default (bits_at a.t.now) false (omega (arith, length_bits a.t.now))))

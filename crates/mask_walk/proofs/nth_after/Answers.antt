@@ -7,9 +7,6 @@ use Rattle.mask_bits.proofs.BitLaws.{length_bits, set_below}
 use Rattle.slots.proofs.SlotLaws.{nth_hit}
 use Rattle.mask_walk.proofs.nth_after.Goals as goal
 
-pub returns-then-n-ne1 : goal.returns-then-n-ne1
-returns-then-n-ne1 c = c.nth_far.ensures
-
 pub overflow_cast-result : goal.overflow_cast-result
 overflow_cast-result c =
     let a = c.args in
@@ -21,7 +18,7 @@ returns-then-is_set c =
     let a = c.args in
     let set = sym c.is_set.ensures ∙ c.if-is_set.true in
     let below = set_below a.t.now a.from.0 set in
-    sym (nth_hit (bits_at a.t.now) a.from.0 (a.from.0 + 1) a.n.0 (omega (arith, length_bits a.t.now)) set c.if-n-ne1.false)
+    sym (nth_hit (bits_at a.t.now) a.from.0 (a.from.0 + 1) a.n.0 (omega (arith, length_bits a.t.now)) set c.if-n-eq1.true)
 
 pub returns : goal.returns
-returns c = c.nth_far-2.ensures
+returns c = c.nth_far.ensures

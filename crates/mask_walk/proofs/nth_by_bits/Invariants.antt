@@ -1,4 +1,4 @@
-use Prim.Native.Nat.{◌+◌, ◌-◌}
+use Prim.Native.Nat.{◌+◌}
 use mathlib.Core.Path.{◌≡◌}
 use lib.ListN.{drop}
 use Rattle.slots.specs.Slots.{nth_from}
@@ -8,6 +8,3 @@ use Rattle.mask_walk.proofs.nth_by_bits.Given as goal
 abbrev pub invariant-loop-i : goal.invariant-loop-i
 invariant-loop-i l =
     nth_from (drop l.from (bits_at l.t)) (l.from + 1) l.n ≡ nth_from (drop l.i (bits_at l.t)) (l.i + 1) l.left
-
-abbrev pub decreases-loop-i : goal.decreases-loop-i
-decreases-loop-i l = 255 - l.i

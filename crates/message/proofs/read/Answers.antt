@@ -1,17 +1,16 @@
-use borrow.Author.Tests.{eq-eqb, ne_eqb}
 use mathlib.Core.Path.{sym, ◌∙◌}
-use Rattle.message.specs.Read.{answer, read_message}
+use borrow.Author.Tests.{eq-eqb, ne_eqb}
 use Rattle.verdict.proofs.NumberLaws.{number_last}
+use Rattle.message.specs.Read.{answer, read_message}
 use Rattle.message.proofs.read.Goals as goal
 
 pub returns-then-s-ne61 : goal.returns-then-s-ne61
 unfolding read_message answer
-returns-then-s-ne61 c = rw (ne_eqb _ _ c.if-s-ne61.true) c.answer_of.ensures
+returns-then-s-ne61 c = rw (ne_eqb _ _ c.if-s-ne61.true)
 
 pub returns-then-get8-ne0 : goal.returns-then-get8-ne0
 unfolding read_message answer
-returns-then-get8-ne0 c =
-    rw (eq-eqb _ _ c.if-s-ne61.false, ← c.get8.ensures, ne_eqb _ _ c.if-get8-ne0.true) c.answer_of-then-get8-ne0.ensures
+returns-then-get8-ne0 c = rw (eq-eqb _ _ c.if-s-ne61.false, ← c.get8.ensures, ne_eqb _ _ c.if-get8-ne0.true)
 
 pub returns-then-not-check_ok : goal.returns-then-not-check_ok
 unfolding read_message answer
@@ -21,7 +20,7 @@ returns-then-not-check_ok c =
       ← c.get8.ensures,
       eq-eqb _ _ c.if-get8-ne0.false,
       sym c.check_ok.ensures ∙ c.if-not-check_ok.true,
-    ) c.answer_of-then-not-check_ok.ensures
+    )
 
 pub returns : goal.returns
 unfolding read_message

@@ -1,11 +1,9 @@
-use Rattle.std.proofs.Common.{◌≡◌, ◌-◌, length, drop}
+use Rattle.std.proofs.Common.{◌≡◌}
 use lib.Bits.{bit_xor}
+use Rattle.field64.specs.Padded.{pad_logs, pad_powers}
 use Rattle.parity.specs.Unpacked.{row_by}
 use Rattle.parity.proofs.row.Given as goal
 
-abbrev pub invariant-loop-k : goal.invariant-loop-k
-invariant-loop-k l =
-    (bit_xor l.s (row_by l.log l.exp l.ls (drop l.k l.p) (drop l.k l.f)) ≡ row_by l.log l.exp l.ls l.p l.f) × (length l.p ≡ 4) × (length l.f ≡ 4)
-
-abbrev pub decreases-loop-k : goal.decreases-loop-k
-decreases-loop-k l = 4 - l.k
+abbrev pub invariant-loop-p : goal.invariant-loop-p
+invariant-loop-p l =
+    bit_xor l.s (row_by pad_logs pad_powers l.ls l.p-iterator.a.rest.now l.p-iterator.b.rest.now) ≡ row_by pad_logs pad_powers l.ls l.fn.ps l.fn.fs

@@ -1,11 +1,7 @@
-use Rattle.std.proofs.Common.{◌≡◌, ◌-◌, ◌*◌, ◌≤◌, ◌++◌, length, drop}
+use Rattle.std.proofs.Common.{◌≡◌, ◌*◌, ◌++◌, drop, replicate}
 use Rattle.bits.specs.Table.{table}
 use Rattle.parity.specs.Unpacked.{symbol_log}
 use Rattle.parity.proofs.symbol_logs.Given as goal
 
 abbrev pub invariant-loop-q : goal.invariant-loop-q
-invariant-loop-q l =
-    (l.q ≤ 41) × (length l.initial.out ≡ 256) × (l.out ≡ table (symbol_log l.frame) (4 * l.q) ++ drop (4 * l.q) l.initial.out)
-
-abbrev pub decreases-loop-q : goal.decreases-loop-q
-decreases-loop-q l = 41 - l.q
+invariant-loop-q l = l.out ≡ table (symbol_log l.frame) (4 * l.q) ++ drop (4 * l.q) (replicate 256 0)

@@ -1,17 +1,8 @@
-use Rattle.std.proofs.Common.{refl, arith}
-use Rattle.bits.proofs.TableLaws.{fill_start, fill_step}
-use Rattle.parity_making.proofs.WalkLaws.{added_done}
+use Rattle.std.proofs.Common.{rules}
+use Rattle.bits.proofs.MadeLaws.{made_table}
+use Rattle.parity_making.specs.Walk.{adds, added}
 use Rattle.parity_making.proofs.all_added.Goals as goal
 
-pub loop-k-init : goal.loop-k-init
-loop-k-init c = (omega arith, refl, fill_start _ _)
-
-pub loop-k-preserved : goal.loop-k-preserved
-loop-k-preserved c =
-    let l = c.loop-k in
-    (omega arith, refl, fill_step _ l.k _ _ _ 0 (omega arith) l.invariant.2 c.adds_at.ensures)
-
 pub returns : goal.returns
-returns c =
-    let l = c.loop-k in
-    added_done _ _ _ l.k (omega arith) refl l.invariant.2
+unfolding added
+returns c = made_table (adds c.args.m.now) _ _ _ c.from_fn.ensures.items (λ j y q k. search rules)

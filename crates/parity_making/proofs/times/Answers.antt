@@ -7,5 +7,5 @@ pub returns : goal.returns
 returns c =
     let a = c.args.a in
     let b = c.args.b in
-    let e : get_or c.args.exp.now c.wide-3.result 0 ≡ get_or pad_powers ((get_or pad_logs a 0 + get_or pad_logs b 0) % 256) 0 = cc in
+    let e : c.padded_power.result ≡ get_or pad_powers ((get_or pad_logs a 0 + get_or pad_logs b 0) % 256) 0 = cc in
     e ∙ padded a b _ (search rules) (pad_at b (search rules))

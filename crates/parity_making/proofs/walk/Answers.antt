@@ -1,23 +1,21 @@
-use Rattle.std.proofs.Common.{refl, arith}
-use Rattle.bits.proofs.TableLaws.{fill_start, fill_step}
-use Rattle.parity_making.specs.Walk.{walked}
-use Rattle.parity_making.proofs.WalkLaws.{walk_step, fill_last}
+use Rattle.std.proofs.Common.{◌+◌, refl, arith}
+use Rattle.bits.specs.Table.{table}
+use Rattle.bits.proofs.TableLaws.{fill_step, fill_done}
+use Rattle.parity_making.specs.Walk.{carries, walked}
+use Rattle.parity_making.proofs.WalkLaws.{walk_step, filled}
 use Rattle.parity_making.proofs.walk.Goals as goal
 
 pub loop-k-init : goal.loop-k-init
-unfolding walked
-loop-k-init c = (omega arith, refl, fill_start _ _, refl)
+unfolding table walked
+loop-k-init c = refl
 
 pub loop-k-preserved : goal.loop-k-preserved
 loop-k-preserved c =
-    let l = c.loop-k in (
-      omega arith,
-      refl,
-      fill_step _ l.k _ _ _ 0 (omega arith) l.invariant.2 l.invariant.3,
-      rw (c.times.ensures, l.invariant.3) (walk_step _ _ _ l.k),
-    )
+    let l = c.loop-k in
+    fill_step (walked carries c.args.d.now c.args.x) (l.k + 1) _ _ _ 0 (omega arith) l.invariant
+    (rw (c.times.ensures, c.carry.ensures, filled _ _ l.k (l.k + 1) _ (omega arith) l.invariant) (walk_step _ _ _ l.k))
 
 pub returns : goal.returns
 returns c =
     let l = c.loop-k in
-    fill_last _ l.k 81 _ _ _ (omega arith) refl l.invariant.2 l.invariant.3
+    fill_done _ (l.k + 1) 82 _ _ (omega arith) refl l.invariant

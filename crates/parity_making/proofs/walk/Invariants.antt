@@ -1,11 +1,7 @@
-use Rattle.std.proofs.Common.{◌≡◌, ◌-◌, ◌≤◌, ◌++◌, length, drop}
+use Rattle.std.proofs.Common.{◌≡◌, ◌+◌, ◌++◌, drop, replicate}
 use Rattle.bits.specs.Table.{table}
-use Rattle.parity_making.specs.Walk.{walked}
+use Rattle.parity_making.specs.Walk.{carries, walked}
 use Rattle.parity_making.proofs.walk.Given as goal
 
 abbrev pub invariant-loop-k : goal.invariant-loop-k
-invariant-loop-k l =
-    (l.k ≤ 81) × (length l.initial.out ≡ 82) × (l.out ≡ table (walked l.carry l.d l.x) l.k ++ drop l.k l.initial.out) × (l.y ≡ walked l.carry l.d l.x l.k)
-
-abbrev pub decreases-loop-k : goal.decreases-loop-k
-decreases-loop-k l = 81 - l.k
+invariant-loop-k l = l.out ≡ table (walked carries l.d l.x) (l.k + 1) ++ drop (l.k + 1) (replicate 82 l.x)

@@ -6,18 +6,18 @@ use Rattle.places.proofs.code_refusal.Goals as goal
 pub returns-then-is_other_mask : goal.returns-then-is_other_mask
 returns-then-is_other_mask c =
     let a = c.args in
-    sym (code_other (mask_at a.t.now) a.u (sym c.is_other_mask.ensures ∙ c.if-is_other_mask.true))
+    rw (code_other (mask_at a.t.now) a.u (sym c.is_other_mask.ensures ∙ c.if-is_other_mask.true))
 
 pub returns-then-is_past_last : goal.returns-then-is_past_last
 returns-then-is_past_last c =
     let a = c.args in
     let own = sym c.is_other_mask.ensures ∙ c.if-is_other_mask.false in
     let test = rw c.first_code.ensures at (sym c.is_past_last.ensures ∙ c.if-is_past_last.true) in
-    sym (code_past (mask_at a.t.now) a.u own test)
+    rw (code_past (mask_at a.t.now) a.u own test)
 
 pub returns : goal.returns
 returns c =
     let a = c.args in
     let own = sym c.is_other_mask.ensures ∙ c.if-is_other_mask.false in
     let test = rw c.first_code.ensures at (sym c.is_past_last.ensures ∙ c.if-is_past_last.false) in
-    sym (code_good (mask_at a.t.now) a.u own test)
+    rw (code_good (mask_at a.t.now) a.u own test)

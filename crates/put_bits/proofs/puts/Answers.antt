@@ -1,34 +1,37 @@
 use borrow.Author.Rules.{rules}
 use native.Mathlib.Omega.{arith}
-use Prim.Native.Nat.{◌-◌}
-use mathlib.Core.Path.{sym, ◌∙◌, refl}
-use lib.ListN.{get_or}
-use mir.Val.{Fits}
-use mir.Syntax.{w8}
-use Rattle.bits.proofs.RowLaws.{puts_step, puts_end}
+use Prim.Native.Nat.{ℕ, ◌+◌}
+use lib.ListN.{length}
+use Rattle.std.proofs.lemmas.Slice.Zip.{either_empty_from_Zip}
+use mathlib.Core.Path.{◌≡◌, ap, refl, sym, ◌∙◌}
+use mathlib.Core.List.{List, [], ◌∷◌}
+use mathlib.Core.Logic.{◌⊎◌, ⊎_elim}
+use Rattle.bits.specs.Bits.{put_at, puts_at}
 use Rattle.put_bits.proofs.puts.Goals as goal
 
-pub loop-i-init : goal.loop-i-init
-loop-i-init c =
-    (omega arith, omega arith, refl, (let g = c.type_inv in search rules), (let g = c.type_inv in search rules), refl)
+-- one field more
+one : (s : List ℕ) (a w v : ℕ) {ws vs us xs : List ℕ} → ws ≡ w ∷ us → vs ≡ v ∷ xs → puts_at s a ws vs ≡ puts_at (put_at s a w v) (a + w) us xs
+unfolding puts_at
+one s a w v p q = rw (p, q)
 
-pub shape_of-room : goal.shape_of-room
-shape_of-room c = c.loop-i.invariant.2
+-- none left
+none : (s : List ℕ) (a : ℕ) (ws vs : List ℕ) → (ws ≡ []) ⊎ (vs ≡ []) → puts_at s a ws vs ≡ s
+unfolding puts_at
+none s a ws vs o = ⊎_elim (λ p. rw p) (λ p. rw p (nought ws)) o
+  where
+    nought : (us : List ℕ) → puts_at s a us [] ≡ s
+    nought [] = refl
+    nought (w ∷ us) = refl
+
+pub loop-w-init : goal.loop-w-init
+loop-w-init c =
+    (search rules, rw (c.into_iter-w-iterator.ensures.into_iter_gives, c.zip-w-items.ensures.first, c.iter.ensures.rest, c.zip-w-items.ensures.second.0))
+
+pub loop-w-preserved : goal.loop-w-preserved
+loop-w-preserved c =
+    let h = c.in-Some.ensures.steps in
+    let e = c.loop-w.invariant.1 in
+    (omega (arith, ap length h.0), rw c.put.ensures (sym (one c.loop-w.room c.loop-w.a _ _ h.0 h.1) ∙ e))
 
 pub returns : goal.returns
-returns c =
-    let i = c.loop-i in
-    sym (puts_end _ _ _ _ i.i (omega arith)) ∙ i.invariant.5
-
-pub loop-i-preserved : goal.loop-i-preserved
-loop-i-preserved c =
-    let i = c.loop-i in
-    let a = c.args in
-    let h : Fits w8 (get_or a.ws i.i 0) = search rules in (
-      omega arith,
-      omega arith,
-      c.put.auto.room ∙ i.invariant.2,
-      i.invariant.3,
-      i.invariant.4,
-      rw c.put.ensures (sym (puts_step i.room i.a _ _ i.i (omega arith) (omega arith)) ∙ i.invariant.5),
-    )
+returns c = sym (none c.loop-w.room c.loop-w.a _ _ (either_empty_from_Zip _ c.next.new.self _ c.in-None.is c.next.ensures.steps)) ∙ c.loop-w.invariant.1

@@ -1,13 +1,10 @@
-use Prim.Native.Nat.{◌+◌, ◌*◌, ◌-◌, ◌≤◌}
+use Prim.Native.Nat.{◌+◌, ◌*◌, ◌≤◌}
 use mathlib.Core.Path.{◌≡◌}
-use lib.ListN.{length, drop}
+use lib.ListN.{length}
 use Rattle.bits.specs.Bits.{puts_at}
 use Rattle.put_bits.proofs.puts.Given as goal
 
-abbrev pub invariant-loop-i : goal.invariant-loop-i
-invariant-loop-i l =
-    (l.i ≤ 8) × (l.a ≤ l.at + 255 * l.i) × (length l.room ≡ length l.initial.room) × (length l.ws ≡ 8) × (length l.vs ≡ 8)
-    × (puts_at l.room l.a (drop l.i l.ws) (drop l.i l.vs) ≡ puts_at l.initial.room l.at l.ws l.vs)
-
-abbrev pub decreases-loop-i : goal.decreases-loop-i
-decreases-loop-i l = 8 - l.i
+abbrev pub invariant-loop-w : goal.invariant-loop-w
+invariant-loop-w l =
+    let ws = l.w-iterator.a.rest.now in
+    (l.a + 255 * length ws ≤ l.at + 255 * 8) × (puts_at l.room l.a ws l.w-iterator.b.rest.now ≡ puts_at l.initial.room l.at l.fn.ws l.fn.vs)

@@ -1,10 +1,18 @@
 use borrow.Author.Rules.{rules}
-use mathlib.Core.Path.{ap, ◌∙◌}
-use Rattle.verdict.specs.Verdict.{number_in}
-use Rattle.message.specs.Read.{Answer, read_message}
+use mathlib.Core.Path.{sym, ap, ◌∙◌}
+use Rattle.verdict.specs.Verdict.{number_in, refused_by}
+use Rattle.verdict.proofs.NumberLaws.{number_back}
+use Rattle.message.specs.Read.{Answer, answer, read_message}
 use Rattle.message_calls.specs.Message.{reading_room}
 use Rattle.message_calls.proofs.MessageLaws.{reading_size, reading_right}
 use Rattle.quieuvodan.proofs.qvd_read.Goals as goal
+
+-- what reading a message says is a number alone, and nothing where that is 0
+pub put_reading-requires-clause-quiet : goal.put_reading-requires-clause-quiet
+unfolding read_message answer
+put_reading-requires-clause-quiet c = λ z.
+    let said = ap (λ (x : Answer). x.said) c.read.ensures in
+    said ∙ ap refused_by (sym (number_back _) ∙ ap number_in (sym said) ∙ z)
 
 pub returns-then-contents-ne-CONTENTS_SIZE : goal.returns-then-contents-ne-CONTENTS_SIZE
 returns-then-contents-ne-CONTENTS_SIZE c =

@@ -1,11 +1,20 @@
 use borrow.Author.Rules.{rules}
-use mathlib.Core.Path.{ap, ◌∙◌}
+use mathlib.Core.Path.{sym, ap, ◌∙◌}
 use Rattle.answers.specs.Detail.{detail_in}
+use Rattle.verdict.specs.Verdict.{number_in}
 use Rattle.message.specs.Read.{Answer}
-use Rattle.frame.specs.Frame.{read_frame}
+use Rattle.frame.specs.Frame.{read_frame, read_with}
+use Rattle.frame.proofs.VerdictLaws.{frame_quiet}
 use Rattle.message_calls.specs.Message.{reading_room}
 use Rattle.message_calls.proofs.MessageLaws.{reading_size, reading_right}
 use Rattle.quieuvodan.proofs.qvd_read_frame_detail.Goals as goal
+
+-- what reading a frame says has the number 0 only where it is nothing
+pub put_reading-requires-clause-quiet : goal.put_reading-requires-clause-quiet
+unfolding read_with
+put_reading-requires-clause-quiet c = λ z.
+    let said = ap (λ (x : Answer). x.said) c.read_frame.ensures in
+    said ∙ frame_quiet c.args.frame.now _ (ap number_in (sym said) ∙ z)
 
 pub returns-then-contents-ne-CONTENTS_SIZE : goal.returns-then-contents-ne-CONTENTS_SIZE
 returns-then-contents-ne-CONTENTS_SIZE c =

@@ -1,12 +1,13 @@
-use mathlib.Core.Path.{sym, ◌∙◌}
-use Rattle.judge.proofs.JudgeLaws.{high_none, twice_none}
+use borrow.Author.Rules.{rules}
+use Rattle.judge.specs.Judge.{clock_slots}
+use Rattle.records.specs.Clock.{blank_clock}
+use Rattle.record_slots.proofs.SlotLaws.{slots_table}
 use Rattle.record_slots.proofs.clock_faults.Goals as goal
 
-pub returns : goal.returns
-returns c = rw (← c.clock_slots-a.ensures) c.faults_in.ensures
+pub returns-clause-high : goal.returns-clause-high
+unfolding clock_slots
+returns-clause-high c = rw (← (slots_table (λ x. x.slot) c.args.ks 23 blank_clock (search rules))) c.faults.ensures.high
 
-pub returns-then-not-any_clock-clause-high : goal.returns-then-not-any_clock-clause-high
-returns-then-not-any_clock-clause-high c = sym (high_none _ (sym c.any_clock.ensures ∙ c.if-not-any_clock.true))
-
-pub returns-then-not-any_clock-clause-again : goal.returns-then-not-any_clock-clause-again
-returns-then-not-any_clock-clause-again c = sym (twice_none _ (sym c.any_clock.ensures ∙ c.if-not-any_clock.true))
+pub returns-clause-again : goal.returns-clause-again
+unfolding clock_slots
+returns-clause-again c = rw (← (slots_table (λ x. x.slot) c.args.ks 23 blank_clock (search rules))) c.faults.ensures.again

@@ -1,12 +1,13 @@
-use mathlib.Core.Path.{sym, ◌∙◌}
-use Rattle.judge.proofs.JudgeLaws.{high_none, twice_none}
+use borrow.Author.Rules.{rules}
+use Rattle.judge.specs.Judge.{orbit_slots}
+use Rattle.records.specs.Orbit.{blank_orbit}
+use Rattle.record_slots.proofs.SlotLaws.{slots_table}
 use Rattle.record_slots.proofs.orbit_faults.Goals as goal
 
-pub returns : goal.returns
-returns c = rw (← c.orbit_slots-a.ensures) c.faults_in.ensures
+pub returns-clause-high : goal.returns-clause-high
+unfolding orbit_slots
+returns-clause-high c = rw (← (slots_table (λ x. x.slot) c.args.os 6 blank_orbit (search rules))) c.faults.ensures.high
 
-pub returns-then-not-any_orbit-clause-high : goal.returns-then-not-any_orbit-clause-high
-returns-then-not-any_orbit-clause-high c = sym (high_none _ (sym c.any_orbit.ensures ∙ c.if-not-any_orbit.true))
-
-pub returns-then-not-any_orbit-clause-again : goal.returns-then-not-any_orbit-clause-again
-returns-then-not-any_orbit-clause-again c = sym (twice_none _ (sym c.any_orbit.ensures ∙ c.if-not-any_orbit.true))
+pub returns-clause-again : goal.returns-clause-again
+unfolding orbit_slots
+returns-clause-again c = rw (← (slots_table (λ x. x.slot) c.args.os 6 blank_orbit (search rules))) c.faults.ensures.again

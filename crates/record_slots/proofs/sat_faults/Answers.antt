@@ -1,12 +1,13 @@
-use mathlib.Core.Path.{sym, ◌∙◌}
-use Rattle.judge.proofs.JudgeLaws.{high_none, twice_none}
+use borrow.Author.Rules.{rules}
+use Rattle.judge.specs.Judge.{sat_slots}
+use Rattle.biases.specs.Biases.{blank_sat}
+use Rattle.record_slots.proofs.SlotLaws.{slots_table}
 use Rattle.record_slots.proofs.sat_faults.Goals as goal
 
-pub returns : goal.returns
-returns c = rw (← c.sat_slots-a.ensures) c.faults_in.ensures
+pub returns-clause-high : goal.returns-clause-high
+unfolding sat_slots
+returns-clause-high c = rw (← (slots_table (λ x. x.slot) c.args.bs 31 blank_sat (search rules))) c.faults.ensures.high
 
-pub returns-then-not-any_sat-clause-high : goal.returns-then-not-any_sat-clause-high
-returns-then-not-any_sat-clause-high c = sym (high_none _ (sym c.any_sat.ensures ∙ c.if-not-any_sat.true))
-
-pub returns-then-not-any_sat-clause-again : goal.returns-then-not-any_sat-clause-again
-returns-then-not-any_sat-clause-again c = sym (twice_none _ (sym c.any_sat.ensures ∙ c.if-not-any_sat.true))
+pub returns-clause-again : goal.returns-clause-again
+unfolding sat_slots
+returns-clause-again c = rw (← (slots_table (λ x. x.slot) c.args.bs 31 blank_sat (search rules))) c.faults.ensures.again

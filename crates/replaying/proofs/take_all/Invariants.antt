@@ -1,14 +1,6 @@
-use borrow.Author.Rules.{rules}
-use native.Mathlib.Omega.{arith}
-use Prim.Native.Nat.{◌-◌}
-use mathlib.Core.Path.{ap, ◌∙◌}
-use lib.ListN.{length, length-set}
 use Rattle.verdict.specs.Verdict.{number_in}
-use Rattle.ledger_calls.proofs.ReplayLaws.{Taking, taking_start, taking_turn, taking_end}
+use Rattle.ledger_calls.proofs.ReplayLaws.{Taking}
 use Rattle.replaying.proofs.take_all.Given as goal
 
 abbrev pub invariant-loop-i : goal.invariant-loop-i
 invariant-loop-i l = Taking number_in l.initial.t l.log l.initial.verdicts l.t l.verdicts l.i
-
-abbrev pub decreases-loop-i : goal.decreases-loop-i
-decreases-loop-i l = length l.verdicts - l.i

@@ -1,7 +1,7 @@
 use mathlib.Core.Path.{sym, ap, ◌∙◌}
+use Rattle.std.specs.Prelude.{Ok}
 use Rattle.row.specs.Row.{row_of, qualifies, row_says}
 use Rattle.row.specs.declared.Row.{Row}
-use Rattle.row.specs.declared.RowAnswer.TheVariants.{Found}
 use Rattle.row.proofs.slot_row.Goals as goal
 
 pub returns-then-not-is_assigned : goal.returns-then-not-is_assigned
@@ -55,4 +55,4 @@ returns c =
       sym c.has_bit.ensures ∙ c.if-not-has_bit.false,
       sym (rw (c.mask_ssr.ensures, c.get_clock-k.ensures, c.coded_orbit-o.ensures) at c.do_agree.ensures) ∙ c.if-not-do_agree.false,
       sym (rw (c.get_clock-k.ensures, c.coded_orbit-o.ensures) at c.is_usable.ensures) ∙ c.if-not-is_usable.false,
-    ) (ap (λ (r : Row). row_says (Found r)) (rw (c.get_clock-k.ensures, c.coded_orbit-o.ensures) at c.row_from.ensures))
+    ) (ap (λ (r : Row). row_says (Ok r)) (rw (c.get_clock-k.ensures, c.coded_orbit-o.ensures) at c.row_from.ensures))

@@ -11,5 +11,5 @@ returns-in_default c =
 pub returns : goal.returns
 returns c =
     let a = c.args in
-    let p = answer_some a.rows.now a.n a.a _ _ c.in-Found.is c.put_row.ensures in
+    let p = answer_some a.rows.now a.n a.a _ _ c.in-Ok.is c.put_row.ensures in
     record { count = p.0; bytes = p.1 }

@@ -7,7 +7,6 @@ use Rattle.bits.specs.Bytes.{store_at}
 use Rattle.lookback.specs.Walk.{rows_from}
 use Rattle.row.specs.Row.{row_says, answer_of}
 use Rattle.list.specs.Rows.{row_in, list_in}
-use Rattle.row.specs.declared.RowAnswer.TheVariants.{Refused}
 use Rattle.list.proofs.AnswerLaws.{found_le, row_next}
 use Rattle.answers.specs.Size.{row_size}
 use Rattle.row_calls.specs.Rows.{rows_bytes}
@@ -16,11 +15,7 @@ use Rattle.row_rooms.proofs.put_rows.Given as goal
 
 abbrev pub invariant-loop-i : goal.invariant-loop-i
 invariant-loop-i l =
-    (l.i ≤ 255)
-    × (l.n ≤ l.i)
+    (l.n ≤ l.i)
     × (length l.issues ≡ 255)
     × (length l.rows ≡ length l.initial.rows)
     × (store_at l.rows (row_size * l.n) (rows_bytes (rows_from (row_in l.ledger l.issues) (255 - l.i) (l.i + 1))) ≡ store_at l.initial.rows 0 (rows_bytes (list_in l.ledger l.issues)))
-
-abbrev pub decreases-loop-i : goal.decreases-loop-i
-decreases-loop-i l = 255 - l.i

@@ -16,14 +16,14 @@ returns-then-row-ne-ROW_SIZE c =
     let p = row_size_lem a.ledger.now a.issues.now a.slot a.row.now c.if-ledger-ne-LEDGER_SIZE.false c.if-row-ne-ROW_SIZE.true in
     record { answer = p.0; bytes = p.1 }
 
-pub returns-in-Found : goal.returns-in-Found
-returns-in-Found c =
+pub returns-in-Ok : goal.returns-in-Ok
+returns-in-Ok c =
     let a = c.args in
-    let p = row_found a.ledger.now a.issues.now a.slot a.row.now _ _ c.if-ledger-ne-LEDGER_SIZE.false c.if-row-ne-ROW_SIZE.false (sym c.row_of_slot-a.ensures ∙ ap row_says c.in-Found.is) c.put_row.ensures in
+    let p = row_found a.ledger.now a.issues.now a.slot a.row.now _ _ c.if-ledger-ne-LEDGER_SIZE.false c.if-row-ne-ROW_SIZE.false (sym c.row_of_slot-a.ensures ∙ ap row_says c.in-Ok.is) c.put_row.ensures in
     record { answer = p.0; bytes = p.1 }
 
-pub returns-in-Refused : goal.returns-in-Refused
-returns-in-Refused c =
+pub returns-in-Err : goal.returns-in-Err
+returns-in-Err c =
     let a = c.args in
-    let p = row_none a.ledger.now a.issues.now a.slot a.row.now _ c.if-ledger-ne-LEDGER_SIZE.false c.if-row-ne-ROW_SIZE.false (sym c.row_of_slot-a.ensures ∙ ap row_says c.in-Refused.is) in
+    let p = row_none a.ledger.now a.issues.now a.slot a.row.now _ c.if-ledger-ne-LEDGER_SIZE.false c.if-row-ne-ROW_SIZE.false (sym c.row_of_slot-a.ensures ∙ ap row_says c.in-Err.is) in
     record { answer = p.0; bytes = p.1 }

@@ -2,4 +2,4 @@ use borrow.Author.Rules.{rules}
 use Rattle.sheet_fields.proofs.put_row.Goals as goal
 
 pub returns : goal.returns
-returns c = rw (c.store.ensures, c.row_bytes-b.ensures)
+returns c = rw (c.store.ensures, c.row_bytes.ensures)

@@ -17,12 +17,8 @@ use Rattle.sheet_writing.proofs.put_rows.Given as goal
 
 abbrev pub invariant-loop-i : goal.invariant-loop-i
 invariant-loop-i l =
-    (l.i ≤ 255)
-    × (length l.issues ≡ 255)
+    (length l.issues ≡ 255)
     × (length l.room ≡ length l.initial.room)
     × (l.at + 24 * length (rows_from (row_in l.ledger l.issues) (255 - l.i) (l.i + 1)) ≡ 8 + 24 * length (list_in l.ledger l.issues))
     × (l.at + 24 * length (rows_from (row_in l.ledger l.issues) (255 - l.i) (l.i + 1)) ≤ length l.room)
     × (store_at l.room l.at (row_fields (rows_from (row_in l.ledger l.issues) (255 - l.i) (l.i + 1))) ≡ store_at l.initial.room 8 (row_fields (list_in l.ledger l.issues)))
-
-abbrev pub decreases-loop-i : goal.decreases-loop-i
-decreases-loop-i l = 255 - l.i

@@ -1,17 +1,16 @@
-use borrow.Author.Rules.{rules}
-use mathlib.Core.Path.{sym, ap, ◌∙◌}
-use Rattle.list.specs.Rows.{count_says}
-use Rattle.sheet_writing.proofs.AnswerLaws.{right_issues, count_refused, count_rows}
+use mathlib.Core.Path.{ap, ◌∙◌}
+use Rattle.verdict.proofs.NumberLaws.{handed_on}
+use Rattle.list.proofs.AnswerLaws.{count_refused, count_rows}
+use Rattle.sheet_writing.specs.Writing.{sheet_says}
+use Rattle.sheet_writing.proofs.AnswerLaws.{right_issues}
 use Rattle.sheet_writing.proofs.write_sheet.Goals as goal
 
-pub write_list-requires : goal.write_list-requires
-write_list-requires c =
+pub returns-in_err-n : goal.returns-in_err-n
+returns-in_err-n c =
     let a = c.args in
-    count_rows a.ledger.now a.issues.now _ (sym (ap count_says c.in-Rows.is) ∙ c.row_count-count.ensures)
+    let e = count_refused _ _ _ c.in_err-n.ensures in
+    let p = right_issues a.ledger.now a.issues.now a.room.now _ e.0 (λ z. e.1 (e.0 ∙ z)) in
+    record { answer = ap sheet_says (handed_on _ _ c.from_residual.ensures) ∙ p.0; bytes = p.1 }
 
-pub returns-in-Refused : goal.returns-in-Refused
-returns-in-Refused c =
-    let a = c.args in
-    let e = count_refused a.ledger.now a.issues.now _ (sym (ap count_says c.in-Refused.is) ∙ c.row_count-count.ensures) in
-    let p = right_issues a.ledger.now a.issues.now a.room.now _ e.0 e.1 in
-    record { answer = p.0; bytes = p.1 }
+pub write_list-requires : goal.write_list-requires
+write_list-requires c = count_rows _ _ _ c.in_ok-n.ensures

@@ -1,4 +1,3 @@
-use Prim.Native.Nat.{◌-◌, ◌≤◌}
 use mathlib.Core.Path.{◌≡◌}
 use mathlib.Core.List.{◌++◌}
 use lib.ListN.{drop}
@@ -8,7 +7,4 @@ use Rattle.subframe2.proofs.fields_of.Given as goal
 
 abbrev pub invariant-loop-i : goal.invariant-loop-i
 invariant-loop-i l =
-    (l.i ≤ 31) × (l.at ≡ offset_of l.i) × (l.out ≡ table (field_of l.s) l.i ++ drop l.i l.initial.out)
-
-abbrev pub decreases-loop-i : goal.decreases-loop-i
-decreases-loop-i l = 31 - l.i
+    (l.at ≡ offset_of l.i) × (l.out ≡ table (field_of l.s) l.i ++ drop l.i l.initial.out)

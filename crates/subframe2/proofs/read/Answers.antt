@@ -1,12 +1,16 @@
 use borrow.Author.Tests.{ne_eqb}
-use mathlib.Core.Path.{sym, ◌∙◌}
-use Rattle.subframe2.specs.Read.{answer}
+use mathlib.Core.Path.{ap, ◌∙◌}
+use Rattle.verdict.proofs.NumberLaws.{none_said, one_said, handed_on}
+use Rattle.subframe2.specs.Read.{answer, subframe2_says}
 use Rattle.subframe2.proofs.read.Goals as goal
 
-pub returns-then-n-eq0 : goal.returns-then-n-eq0
+pub returns-in_err-refusal_of : goal.returns-in_err-refusal_of
 unfolding answer
-returns-then-n-eq0 c = rw (sym c.refusal_of-n.ensures ∙ c.if-n-eq0.true, c.fields_of-fields.ensures)
+returns-in_err-refusal_of c =
+    let e = c.in_err-refusal_of.ensures in
+    let k = one_said _ _ e in
+    ap subframe2_says (handed_on _ _ c.from_residual.ensures) ∙ rw (e, ne_eqb _ _ k.1)
 
-pub returns-else-n-eq0 : goal.returns-else-n-eq0
+pub returns : goal.returns
 unfolding answer
-returns-else-n-eq0 c = rw (← c.refusal_of-n.ensures, ne_eqb _ _ c.if-n-eq0.false)
+returns c = let z = none_said _ c.in_ok-refusal_of.ensures in rw (z, c.fields_of.ensures)

@@ -23,9 +23,9 @@ returns-then-get8-gt167 c =
     let k : check_ok c.args.s.now 0 576 ≡ true = sym c.check_ok.ensures ∙ c.if-not-check_ok.false in
     rw (eq-eqb _ _ c.if-s-ne75.false, k, lt-ltb _ _ h)
 
-pub returns-else-get8-gt167 : goal.returns-else-get8-gt167
+pub returns : goal.returns
 unfolding subframe2_refusal
-returns-else-get8-gt167 c =
+returns c =
     let h : hour_of c.args.s.now ≤ 167 = rw (← c.get8.ensures) c.if-get8-gt167.false in
     let k : check_ok c.args.s.now 0 576 ≡ true = sym c.check_ok.ensures ∙ c.if-not-check_ok.false in
     rw (eq-eqb _ _ c.if-s-ne75.false, k, le-ltb _ _ h)

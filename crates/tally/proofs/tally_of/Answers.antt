@@ -1,26 +1,18 @@
-use native.Mathlib.Omega.{arith}
-use Prim.Native.Nat.{ℕ}
-use mathlib.Core.Path.{ap, refl}
+use borrow.Author.Rules.{rules}
+use Prim.Native.Nat.{ℕ, ◌*◌}
 use mathlib.Core.List.{List}
-use Rattle.bits.proofs.TableLaws.{fill_start, fill_step, fill_done}
+use mathlib.Core.Path.{ap}
+use Rattle.bits.proofs.MadeLaws.{made_table}
+use Rattle.lent.specs.Digits.{four_at}
 use Rattle.tally.specs.Tally.{tally_of}
 use Rattle.tally.specs.declared.Tally.{Tally}
-use Rattle.tally.proofs.tally_of.Invariants.{counter}
 use Rattle.tally.proofs.tally_of.Goals as goal
 
 -- the counters as a tally
 abbrev made : List ℕ → Tally
 made l = record { counts = l }
 
-pub loop-i-init : goal.loop-i-init
-loop-i-init c = (omega arith, refl, fill_start _ _)
-
-pub loop-i-preserved : goal.loop-i-preserved
-unfolding counter
-loop-i-preserved c =
-    let l = c.loop-i in
-    (omega arith, refl, fill_step _ l.i _ _ _ 0 (omega arith) l.invariant.2 c.four.ensures)
-
 pub returns : goal.returns
-unfolding counter tally_of
-returns c = let l = c.loop-i in ap made (fill_done _ l.i 40 _ _ (omega arith) refl l.invariant.2)
+unfolding tally_of
+returns c =
+    ap made (made_table (λ (i : ℕ). four_at c.args.tally.now (4 * i)) _ _ _ c.from_fn.ensures.items (λ j y q k. search rules))

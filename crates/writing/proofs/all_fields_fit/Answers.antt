@@ -1,7 +1,10 @@
-use borrow.Author.Rules.{rules}
 use Rattle.writing.specs.Fits.{fits_all}
 use Rattle.writing.proofs.all_fields_fit.Goals as goal
 
-pub returns : goal.returns
+pub returns-then-parts_fit : goal.returns-then-parts_fit
 unfolding fits_all
-returns c = rw (c.last_parts_fit-last.ensures, c.parts_fit-most.ensures)
+returns-then-parts_fit c = rw (← c.parts_fit.ensures, c.if-parts_fit.true, c.last_parts_fit.ensures)
+
+pub returns-else-parts_fit : goal.returns-else-parts_fit
+unfolding fits_all
+returns-else-parts_fit c = rw (← c.parts_fit.ensures, c.if-parts_fit.false)

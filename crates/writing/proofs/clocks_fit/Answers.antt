@@ -1,32 +1,18 @@
-use native.Mathlib.Omega.{arith}
 use borrow.Author.Rules.{rules}
-use Prim.Native.Nat.{◌-◌, ◌≤◌}
-use mathlib.Core.Path.{◌≡◌, sym, ◌∙◌}
-use mathlib.Core.Bool.{true}
-use Rattle.records.specs.Clock.{clock_widths}
-use Rattle.fitting.specs.Fits.{eight, all_fit}
-use Rattle.writing.specs.Fits.{clock_row}
-use Rattle.fitting.proofs.FitLaws.{all_none, all_more, all_miss}
-use Rattle.writing.proofs.FitLaws.{clock_eight}
+use mathlib.Core.Path.{refl, ◌∙◌}
+use Rattle.std.proofs.lemmas.Iterator.{YieldsList-from_slice}
+use Rattle.std.proofs.lemmas.Iterator.Search.{all_from_yields_List}
+use Rattle.records.specs.Clock.{blank_clock, clock_widths}
+use Rattle.records.specs.declared.clock.Clock.{Clock}
+use Rattle.fitting.specs.Fits.{fits}
+use Rattle.fitting.proofs.FitLaws.{all_fit_each}
+use Rattle.writing.specs.Fits.{clock_vals, clock_row}
 use Rattle.writing.proofs.clocks_fit.Goals as goal
-
-pub loop-i-init : goal.loop-i-init
-loop-i-init c = (omega arith, c.clock_widths-ws.ensures, all_none _ _)
 
 pub returns : goal.returns
 returns c =
-    let i = c.loop-i in
-    let e : i.i ≡ 23 = omega arith in
-    sym (rw e at i.invariant.2)
-
-pub returns-then-not-row_fits : goal.returns-then-not-row_fits
-returns-then-not-row_fits c =
-    let i = c.loop-i in
-    let e = rw (i.invariant.1, c.clock_vals.ensures, clock_eight) at c.row_fits.ensures in
-    sym (all_miss _ _ 23 i.i (omega arith) (sym e ∙ c.if-not-row_fits.true))
-
-pub loop-i-preserved : goal.loop-i-preserved
-loop-i-preserved c =
-    let i = c.loop-i in
-    let e = rw (i.invariant.1, c.clock_vals.ensures, clock_eight) at c.row_fits.ensures in
-    (omega arith, i.invariant.1, all_more _ _ i.i i.invariant.2 (sym e ∙ c.if-not-row_fits.false))
+    let ks = c.args.ks.now in
+    let ws = clock_widths c.args.slotted in
+    let fit = λ (k : Clock). fits ws (clock_vals k) in
+    all_from_yields_List fit _ _ c.all.result c.all.ensures.ran (YieldsList-from_slice ks cc) (λ x b q k. search rules)
+    ∙ all_fit_each ws (clock_row ks) fit ks blank_clock 23 (cc) (λ i. refl)

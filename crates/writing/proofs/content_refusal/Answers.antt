@@ -1,18 +1,19 @@
-use borrow.Author.Rules.{rules}
-use borrow.Author.Tests.{eq-eqb, ne_eqb}
-use Rattle.writing.specs.Write.{content_refusal}
+use mathlib.Core.Path.{sym, ap, ◌∙◌}
+use Rattle.verdict.specs.Verdict.{refused_says, refused_by}
+use Rattle.verdict.proofs.NumberLaws.{one_said, handed_on}
+use Rattle.writing.proofs.WriteLaws.{content_judged, content_fits}
 use Rattle.writing.proofs.content_refusal.Goals as goal
 
-pub returns-then-n-ne0 : goal.returns-then-n-ne0
-unfolding content_refusal
-returns-then-n-ne0 c = rw (← c.end_for.ensures, ← c.refusal_of-n.ensures, ne_eqb _ _ c.if-n-ne0.true)
+pub returns-in_err-refusal_of : goal.returns-in_err-refusal_of
+returns-in_err-refusal_of c =
+    let a = c.args.c in
+    let e = rw c.end_for.ensures at c.in_err-refusal_of.ensures in
+    ap refused_says (handed_on _ _ c.from_residual.ensures) ∙ e ∙ ap refused_by (sym (content_judged a (one_said _ _ e).1))
 
 pub returns-then-all_fields_fit : goal.returns-then-all_fields_fit
-unfolding content_refusal
 returns-then-all_fields_fit c =
-    rw (← c.end_for.ensures, ← c.refusal_of-n.ensures, eq-eqb _ _ c.if-n-ne0.false, ← c.all_fields_fit.ensures, c.if-all_fields_fit.true)
+    rw (content_fits c.args.c (rw c.end_for.ensures at c.in_ok-refusal_of.ensures), ← c.all_fields_fit.ensures, c.if-all_fields_fit.true)
 
 pub returns-else-all_fields_fit : goal.returns-else-all_fields_fit
-unfolding content_refusal
 returns-else-all_fields_fit c =
-    rw (← c.end_for.ensures, ← c.refusal_of-n.ensures, eq-eqb _ _ c.if-n-ne0.false, ← c.all_fields_fit.ensures, c.if-all_fields_fit.false)
+    rw (content_fits c.args.c (rw c.end_for.ensures at c.in_ok-refusal_of.ensures), ← c.all_fields_fit.ensures, c.if-all_fields_fit.false)

@@ -1,31 +1,17 @@
-use native.Mathlib.Omega.{arith}
 use borrow.Author.Rules.{rules}
-use Prim.Native.Nat.{◌-◌, ◌≤◌}
-use mathlib.Core.Path.{◌≡◌, sym, ◌∙◌}
-use mathlib.Core.Bool.{true}
-use Rattle.records.specs.Orbit.{orbit_widths}
-use Rattle.fitting.specs.Fits.{all_fit}
-use Rattle.writing.specs.Fits.{orbit_row}
-use Rattle.fitting.proofs.FitLaws.{all_none, all_more, all_miss}
+use mathlib.Core.Path.{refl, ◌∙◌}
+use Rattle.std.proofs.lemmas.Iterator.{YieldsList-from_slice}
+use Rattle.std.proofs.lemmas.Iterator.Search.{all_from_yields_List}
+use Rattle.records.specs.Orbit.{blank_orbit, orbit_widths}
+use Rattle.records.specs.declared.orbit.Orbit.{Orbit}
+use Rattle.fitting.specs.Fits.{fits}
+use Rattle.fitting.proofs.FitLaws.{all_fit_each}
+use Rattle.writing.specs.Fits.{orbit_vals, orbit_row}
 use Rattle.writing.proofs.orbits_fit.Goals as goal
-
-pub loop-i-init : goal.loop-i-init
-loop-i-init c = (omega arith, c.orbit_widths-ws.ensures, all_none _ _)
 
 pub returns : goal.returns
 returns c =
-    let i = c.loop-i in
-    let e : i.i ≡ 6 = omega arith in
-    sym (rw e at i.invariant.2)
-
-pub returns-then-not-row_fits : goal.returns-then-not-row_fits
-returns-then-not-row_fits c =
-    let i = c.loop-i in
-    let e = rw (i.invariant.1, c.orbit_vals.ensures) at c.row_fits.ensures in
-    sym (all_miss _ _ 6 i.i (omega arith) (sym e ∙ c.if-not-row_fits.true))
-
-pub loop-i-preserved : goal.loop-i-preserved
-loop-i-preserved c =
-    let i = c.loop-i in
-    let e = rw (i.invariant.1, c.orbit_vals.ensures) at c.row_fits.ensures in
-    (omega arith, i.invariant.1, all_more _ _ i.i i.invariant.2 (sym e ∙ c.if-not-row_fits.false))
+    let os = c.args.os.now in
+    let fit = λ (o : Orbit). fits orbit_widths (orbit_vals o) in
+    all_from_yields_List fit _ _ c.all.result c.all.ensures.ran (YieldsList-from_slice os cc) (λ x b q k. search rules)
+    ∙ all_fit_each orbit_widths (orbit_row os) fit os blank_orbit 6 (cc) (λ i. refl)

@@ -1,28 +1,14 @@
-use native.Mathlib.Omega.{arith}
-use borrow.Author.Rules.{rules}
-use Prim.Native.Nat.{◌-◌, ◌≤◌}
-use mathlib.Core.Path.{◌≡◌, refl, sym, ◌∙◌}
-use lib.ListN.{length}
-use Rattle.bits.specs.Bits.{puts_at, put_rows}
-use Rattle.bits.proofs.RowLaws.{rows_step, rows_none}
+use mathlib.Core.Path.{sym}
 use native.Mathlib.Nat.{one-mul}
-use Rattle.writing.specs.Write.{mask_widths, mask_row}
+use Rattle.bits.specs.Bits.{puts_at}
+use Rattle.bits.proofs.RowLaws.{rows_step, rows_none}
 use Rattle.writing.proofs.put_mask_bits.Goals as goal
 
 pub loop-i-init : goal.loop-i-init
-loop-i-init c = (omega arith, refl, sym (rows_none _ _ _ _))
-
-pub shape_of-room : goal.shape_of-room
-shape_of-room c = c.loop-i.invariant.1
-
-pub returns : goal.returns
-returns c =
-    let l = c.loop-i in
-    let e : l.i ≡ 255 = omega arith in
-    rw e at l.invariant.2
+loop-i-init c = sym (rows_none _ _ _ _)
 
 pub loop-i-preserved : goal.loop-i-preserved
 unfolding puts_at
 loop-i-preserved c =
     let l = c.loop-i in
-    (omega arith, c.put.auto.room ∙ l.invariant.1, rw (rows_step, ← l.invariant.2, one-mul l.i, ← c.mask_bit-b.ensures) c.put.ensures)
+    rw (rows_step, ← l.invariant, one-mul l.i, ← c.mask_bit.ensures) c.put.ensures

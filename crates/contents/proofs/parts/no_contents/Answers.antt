@@ -4,10 +4,4 @@ use Rattle.contents.proofs.parts.no_contents.Goals as goal
 pub returns : goal.returns
 unfolding no_contents
 returns c =
-    rw (
-      c.no_codes-code.ensures,
-      c.no_biases-bias.ensures,
-      c.no_orbits-orbit.ensures,
-      c.no_clocks-clock.ensures,
-      c.no_mask-mask.ensures,
-    )
+    rw (c.no_codes.ensures, c.no_biases.ensures, c.no_orbits.ensures, c.no_clocks.ensures, c.no_mask.ensures)

@@ -1,21 +1,16 @@
-use native.Mathlib.Omega.{arith}
-use mathlib.Core.Path.{sym, ◌∙◌}
-use borrow.Author.Tests.{lt-ltb, le-ltb}
-use Rattle.bits.proofs.SomeLaws.{some_hit, some_miss, some_end}
-use Rattle.inputs.specs.Hex.{is_no_digit}
+use borrow.Author.Rules.{rules}
+use borrow.Author.Tests.{tests}
+use Prim.Native.Nat.{ℕ}
+use mathlib.Core.Path.{◌∙◌}
+use lib.Dec.{ltb}
+use Rattle.std.proofs.lemmas.Iterator.{YieldsList-from_slice}
+use Rattle.std.proofs.lemmas.Iterator.Search.{any_from_yields_List}
+use Rattle.bits.proofs.MadeLaws.{any_alone}
+use Rattle.inputs.specs.Hex.{digit_of}
 use Rattle.inputs.proofs.hex.any_no_digit.Goals as goal
-
-pub returns-then-digit_of-gt15 : goal.returns-then-digit_of-gt15
-returns-then-digit_of-gt15 c =
-    let i = c.loop-i in
-    sym (some_hit is_no_digit _ i.i 0 (omega arith) (rw c.digit_of.ensures at (lt-ltb _ _ c.if-digit_of-gt15.true))) ∙ i.invariant.1
-
-pub loop-i-preserved : goal.loop-i-preserved
-loop-i-preserved c =
-    let i = c.loop-i in
-    (omega arith, sym (some_miss is_no_digit _ i.i 0 (omega arith) (rw c.digit_of.ensures at (le-ltb _ _ c.if-digit_of-gt15.false))) ∙ i.invariant.1)
 
 pub returns : goal.returns
 returns c =
-    let i = c.loop-i in
-    sym (some_end is_no_digit _ i.i (omega arith)) ∙ i.invariant.1
+    let other = λ (b : ℕ). ltb 15 (digit_of b) in
+    any_from_yields_List other _ _ c.any.result c.any.ensures.ran (YieldsList-from_slice c.args.w.now cc) (λ x b q k. search (rules, tests))
+    ∙ any_alone other c.args.w.now

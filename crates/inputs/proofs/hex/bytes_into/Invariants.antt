@@ -1,4 +1,4 @@
-use Prim.Native.Nat.{◌*◌, ◌-◌, ◌≤◌}
+use Prim.Native.Nat.{◌*◌, ◌≤◌}
 use mathlib.Core.Path.{◌≡◌}
 use lib.ListN.{length, drop}
 use mathlib.Core.List.{◌++◌}
@@ -8,7 +8,4 @@ use Rattle.inputs.proofs.hex.bytes_into.Given as goal
 
 abbrev pub invariant-loop-i : goal.invariant-loop-i
 invariant-loop-i l =
-    (l.n ≤ length l.initial.room) × (2 * l.n ≤ length l.w) × (l.i ≤ l.n) × (length l.room ≡ length l.initial.room) × (l.room ≡ table (byte_of l.w) l.i ++ drop l.i l.initial.room)
-
-abbrev pub decreases-loop-i : goal.decreases-loop-i
-decreases-loop-i l = l.n - l.i
+    (l.n ≤ length l.initial.room) × (2 * l.n ≤ length l.w) × (length l.room ≡ length l.initial.room) × (l.room ≡ table (byte_of l.w) l.i ++ drop l.i l.initial.room)

@@ -1,35 +1,46 @@
 use borrow.Author.Tests.{lt-ltb, le-ltb}
+use native.Mathlib.Omega.{arith}
 use Rattle.inputs.specs.Hex.{digit_of}
 use Rattle.inputs.proofs.hex.digit_of.Goals as goal
 
-pub returns-then-b-lt48 : goal.returns-then-b-lt48
+pub returns-in-48-to-57 : goal.returns-in-48-to-57
 unfolding digit_of
-returns-then-b-lt48 c = rw (lt-ltb _ _ c.if-b-lt48.true)
+returns-in-48-to-57 c =
+    let b = c.args.b in
+    rw (le-ltb b 48 (omega arith), lt-ltb b 58 (omega arith))
 
-pub returns-then-b-lt58 : goal.returns-then-b-lt58
+pub returns-in-65-to-70 : goal.returns-in-65-to-70
 unfolding digit_of
-returns-then-b-lt58 c = rw (le-ltb _ _ c.if-b-lt48.false, lt-ltb _ _ c.if-b-lt58.true)
+returns-in-65-to-70 c =
+    let b = c.args.b in
+    rw (le-ltb b 48 (omega arith), le-ltb b 58 (omega arith), le-ltb b 65 (omega arith), lt-ltb b 71 (omega arith)) (omega arith)
 
-pub returns-then-b-lt65 : goal.returns-then-b-lt65
+pub returns-in-97-to-102 : goal.returns-in-97-to-102
 unfolding digit_of
-returns-then-b-lt65 c = rw (le-ltb _ _ c.if-b-lt48.false, le-ltb _ _ c.if-b-lt58.false, lt-ltb _ _ c.if-b-lt65.true)
+returns-in-97-to-102 c =
+    let b = c.args.b in
+    rw (le-ltb b 48 (omega arith), le-ltb b 58 (omega arith), le-ltb b 65 (omega arith), le-ltb b 71 (omega arith), le-ltb b 97 (omega arith), lt-ltb b 103 (omega arith)) (omega arith)
 
-pub returns-then-b-lt71 : goal.returns-then-b-lt71
+pub returns-in_default : goal.returns-in_default
 unfolding digit_of
-returns-then-b-lt71 c =
-    rw (le-ltb _ _ c.if-b-lt48.false, le-ltb _ _ c.if-b-lt58.false, le-ltb _ _ c.if-b-lt65.false, lt-ltb _ _ c.if-b-lt71.true)
+returns-in_default c =
+    let b = c.args.b in
+    rw (lt-ltb b 48 (omega arith))
 
-pub returns-then-b-lt97 : goal.returns-then-b-lt97
+pub returns-in_default-2 : goal.returns-in_default-2
 unfolding digit_of
-returns-then-b-lt97 c =
-    rw (le-ltb _ _ c.if-b-lt48.false, le-ltb _ _ c.if-b-lt58.false, le-ltb _ _ c.if-b-lt65.false, le-ltb _ _ c.if-b-lt71.false, lt-ltb _ _ c.if-b-lt97.true)
+returns-in_default-2 c =
+    let b = c.args.b in
+    rw (le-ltb b 48 (omega arith), le-ltb b 58 (omega arith), lt-ltb b 65 (omega arith))
 
-pub returns-then-b-lt103 : goal.returns-then-b-lt103
+pub returns-in_default-3 : goal.returns-in_default-3
 unfolding digit_of
-returns-then-b-lt103 c =
-    rw (le-ltb _ _ c.if-b-lt48.false, le-ltb _ _ c.if-b-lt58.false, le-ltb _ _ c.if-b-lt65.false, le-ltb _ _ c.if-b-lt71.false, le-ltb _ _ c.if-b-lt97.false, lt-ltb _ _ c.if-b-lt103.true)
+returns-in_default-3 c =
+    let b = c.args.b in
+    rw (le-ltb b 48 (omega arith), le-ltb b 58 (omega arith), le-ltb b 65 (omega arith), le-ltb b 71 (omega arith), lt-ltb b 97 (omega arith))
 
-pub returns-else-b-lt103 : goal.returns-else-b-lt103
+pub returns-in_default-4 : goal.returns-in_default-4
 unfolding digit_of
-returns-else-b-lt103 c =
-    rw (le-ltb _ _ c.if-b-lt48.false, le-ltb _ _ c.if-b-lt58.false, le-ltb _ _ c.if-b-lt65.false, le-ltb _ _ c.if-b-lt71.false, le-ltb _ _ c.if-b-lt97.false, le-ltb _ _ c.if-b-lt103.false)
+returns-in_default-4 c =
+    let b = c.args.b in
+    rw (le-ltb b 48 (omega arith), le-ltb b 58 (omega arith), le-ltb b 65 (omega arith), le-ltb b 71 (omega arith), le-ltb b 97 (omega arith), le-ltb b 103 (omega arith))

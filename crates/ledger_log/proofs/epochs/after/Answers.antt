@@ -1,24 +1,23 @@
-use borrow.Author.Tests.{ne_eqb}
-use mathlib.Core.Path.{◌≡◌, sym, ap, ◌∙◌}
+use mathlib.Core.Path.{sym, ap, ◌∙◌}
 use Rattle.ledger_log.specs.Epochs.{with_epoch, epochs_after, epoch_bit}
 use Rattle.ledger_log.proofs.EpochLaws.{epoch_there}
+use Rattle.ledger_log.proofs.BitLaws.{epoch_some, epoch_none}
 use Rattle.ledger_log.proofs.epochs.after.Goals as goal
 
 pub returns-then-not-taken : goal.returns-then-not-taken
 unfolding epochs_after
 returns-then-not-taken c = rw (c.if-not-taken.true) c.since_then.ensures
 
-pub returns-then-at-eq0 : goal.returns-then-at-eq0
+pub returns-in_default : goal.returns-in_default
 unfolding epochs_after
-returns-then-at-eq0 c =
+returns-in_default c =
     let a = c.args in
-    let at : epoch_bit a.frame.now ≡ 0 = sym c.epoch_bit-at.ensures ∙ c.if-at-eq0.true in
-    rw (c.if-not-taken.false, epoch_there a.frame.now, at) c.since_then-then-at-eq0.ensures
+    rw (c.if-not-taken.false, epoch_there a.frame.now, epoch_none (epoch_bit a.frame.now) c.in_default.ensures) c.since_then-in_default.ensures
 
 pub returns : goal.returns
 unfolding epochs_after
 returns c =
     let a = c.args in
-    let at = sym c.epoch_bit-at.ensures in
-    rw (c.if-not-taken.false, epoch_there a.frame.now, at, ne_eqb _ _ c.if-at-eq0.false)
-    (c.with_epoch.ensures ∙ ap (with_epoch a.e) c.get32.ensures)
+    let there = epoch_some (epoch_bit a.frame.now) c.in-Some.at c.in-Some.ensures in
+    rw (c.if-not-taken.false, epoch_there a.frame.now, there.0)
+    (c.with_epoch.ensures ∙ ap (with_epoch a.e) (rw there.1 c.get32.ensures))

@@ -7,4 +7,4 @@ returns-then-e c = rw (c.if-e.true, c.longer-gap.ensures, c.lapse.ensures)
 
 pub returns : goal.returns
 unfolding with_epoch
-returns c = rw c.if-e.false
+returns c = rw (c.if-e.false, c.no_epochs.ensures)

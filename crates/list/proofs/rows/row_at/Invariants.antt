@@ -7,7 +7,4 @@ use Rattle.list.proofs.rows.row_at.Given as goal
 
 abbrev pub invariant-loop-i : goal.invariant-loop-i
 invariant-loop-i l =
-    (l.i ≤ 255) × (1 ≤ l.left) × (length l.issues ≡ 255) × (nth_row_from (row_in l.ledger l.issues) (255 - l.i) (l.i + 1) l.left ≡ nth_of (list_in l.ledger l.issues) l.n)
-
-abbrev pub decreases-loop-i : goal.decreases-loop-i
-decreases-loop-i l = 255 - l.i
+    (1 ≤ l.left) × (length l.issues ≡ 255) × (nth_row_from (row_in l.ledger l.issues) (255 - l.i) (l.i + 1) l.left ≡ nth_of (list_in l.ledger l.issues) l.n)

@@ -7,7 +7,4 @@ use Rattle.list.proofs.rows.row_count.Given as goal
 
 abbrev pub invariant-loop-i : goal.invariant-loop-i
 invariant-loop-i l =
-    (l.i ≤ 255) × (l.n ≤ l.i) × (length l.issues ≡ 255) × (l.n + count_from (row_in l.ledger l.issues) (255 - l.i) (l.i + 1) ≡ count_from (row_in l.ledger l.issues) 255 1)
-
-abbrev pub decreases-loop-i : goal.decreases-loop-i
-decreases-loop-i l = 255 - l.i
+    (l.n ≤ l.i) × (length l.issues ≡ 255) × (l.n + count_from (row_in l.ledger l.issues) (255 - l.i) (l.i + 1) ≡ count_from (row_in l.ledger l.issues) 255 1)

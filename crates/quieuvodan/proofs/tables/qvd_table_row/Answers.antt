@@ -16,14 +16,14 @@ returns-then-row-ne-ROW_SIZE c =
     let p = table_row_room_lem a.table.now a.tally.now a.prn a.issues.now a.slot a.row.now c.if-tally-ne-TALLY_SIZE.false _ c.if-row-ne-ROW_SIZE.true c.count.ensures in
     record { answer = p.0; bytes = p.1.0; tally = p.1.1 }
 
-pub returns-in-Found : goal.returns-in-Found
-returns-in-Found c =
+pub returns-in-Ok : goal.returns-in-Ok
+returns-in-Ok c =
     let a = c.args in
-    let p = table_row_found a.table.now a.tally.now a.prn a.issues.now a.slot a.row.now c.if-tally-ne-TALLY_SIZE.false c.if-row-ne-ROW_SIZE.false _ _ (sym c.row_of_slot-a.ensures ∙ ap row_says c.in-Found.is) c.put_row.ensures in
+    let p = table_row_found a.table.now a.tally.now a.prn a.issues.now a.slot a.row.now c.if-tally-ne-TALLY_SIZE.false c.if-row-ne-ROW_SIZE.false _ _ (sym c.in-Ok.ensures) c.put_row.ensures in
     record { answer = p.0; bytes = p.1.0; tally = p.1.1 }
 
-pub returns-in-Refused : goal.returns-in-Refused
-returns-in-Refused c =
+pub returns-in-Err : goal.returns-in-Err
+returns-in-Err c =
     let a = c.args in
-    let p = table_row_none a.table.now a.tally.now a.prn a.issues.now a.slot a.row.now c.if-tally-ne-TALLY_SIZE.false c.if-row-ne-ROW_SIZE.false _ _ (sym c.row_of_slot-a.ensures ∙ ap row_says c.in-Refused.is) c.count-in-Refused.ensures in
+    let p = table_row_none a.table.now a.tally.now a.prn a.issues.now a.slot a.row.now c.if-tally-ne-TALLY_SIZE.false c.if-row-ne-ROW_SIZE.false _ _ (sym c.in-Err.ensures) c.count-in-Err.ensures in
     record { answer = p.0; bytes = p.1.0; tally = p.1.1 }

@@ -1,10 +1,7 @@
-use Prim.Native.Nat.{◌-◌, ◌≤◌}
+use Prim.Native.Nat.{◌≤◌}
 use mathlib.Core.Path.{◌≡◌}
 use lib.ListN.{length}
 use Rattle.report_lines.proofs.counts.put_tally.Given as goal
 
 abbrev pub invariant-loop-i : goal.invariant-loop-i
-invariant-loop-i l = (length l.room ≡ length l.initial.room) × (l.n ≤ length l.room) × (l.i ≤ 40)
-
-abbrev pub decreases-loop-i : goal.decreases-loop-i
-decreases-loop-i l = 40 - l.i
+invariant-loop-i l = (length l.room ≡ length l.initial.room) × (l.n ≤ length l.room)

@@ -4,4 +4,4 @@ use Rattle.sheet.proofs.showing.put_rows.Goals as goal
 
 -- a row was found, so less is left
 pub loop-row-smaller : goal.loop-row-smaller
-loop-row-smaller c = rw c.next_place-place.ensures (less_left _ _ (sym c.in-Found.ensures))
+loop-row-smaller c = rw c.next_place-place.ensures (less_left _ _ (sym c.in-Some.ensures))

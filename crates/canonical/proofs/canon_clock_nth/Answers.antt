@@ -1,8 +1,0 @@
-use borrow.Author.Tests.{lt-ltb, le-ltb}
-use Rattle.canonical.proofs.canon_clock_nth.Goals as goal
-
-pub returns-then-i-n : goal.returns-then-i-n
-returns-then-i-n c = rw (lt-ltb _ _ c.if-i-n.true) c.canon_clock.ensures
-
-pub returns-else-i-n : goal.returns-else-i-n
-returns-else-i-n c = rw (le-ltb _ _ c.if-i-n.false) c.blank_clock.ensures

@@ -1,4 +1,0 @@
-use Rattle.issues.proofs.reading.hear_lines.Given as goal
-
-abbrev pub decreases-loop-left : goal.decreases-loop-left
-decreases-loop-left l = l.left

@@ -1,8 +1,0 @@
-use Prim.Native.Nat.{◌-◌, ◌≤◌}
-use Rattle.pack.proofs.codes.read_codes.Given as goal
-
-abbrev pub invariant-loop-i : goal.invariant-loop-i
-invariant-loop-i l = l.i ≤ 70
-
-abbrev pub decreases-loop-i : goal.decreases-loop-i
-decreases-loop-i l = 70 - l.i

@@ -1,0 +1,7 @@
+use Prim.Native.Nat.{◌≤◌}
+use mathlib.Core.Path.{◌≡◌}
+use lib.ListN.{length}
+use Rattle.show.proofs.entry.put_sat.Given as goal
+
+abbrev pub invariant-loop-b : goal.invariant-loop-b
+invariant-loop-b l = (length l.room ≡ length l.initial.room) × (l.n ≤ length l.room)
