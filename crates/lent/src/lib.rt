@@ -6,14 +6,16 @@ ghost use Rattle.bits.specs.Bytes.{store_at};
 ghost use Rattle.lent.specs.Digits.{flag_of, zig_of, zag_of, pair_of, quad_of, two_at, four_at};
 
 // The bytes of r that a room has place for are stored, where it has place for no more. Never inlined: two copies that end one function would be
-// compiled as one copy of an unknown length, and a caller of store mostly knows the length of r.
+// compiled as one copy of an unknown length, and a caller of store mostly knows the length of r. Kept: a copy of slices of unknown length would be
+// compiled as a call of memmove, and the library for C needs memcpy and memset alone.
 #[inline(never)]
 fn store_part(room: &mut [u8], r: &[u8])
     requires { length room.old ≤ length r.now }
     ensures { room.new ≡ take (length room.old) r.now }
 {
-    let n = room.len();
-    room.copy_from_slice(&r[..n]);
+    for i in 0..room.len() {
+        room[i] = r[i];
+    }
 }
 
 // The bytes of r are stored from at on; those past the end of t are lost.
