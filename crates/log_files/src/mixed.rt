@@ -49,7 +49,27 @@ fn take_bad(rt: &HostRuntime, name: &[u8], number: u64, quiet: bool, heard: &mut
     heard.bad = heard.bad.saturating_add(1);
 }
 
-// A line.
+// The digits of a record of a kind.
+fn take_digits(
+    rt: &HostRuntime,
+    program: &[u8],
+    kind: Kind,
+    digits: &[u8],
+    how: How,
+    heard: &mut Heard,
+) -> Result<(), Failed> {
+    let mut bytes = [0u8; 32768];
+    let n = bytes_into(digits, &mut bytes);
+    match kind {
+        Kind::Frame => take_frame(rt, program, &bytes[..n], how, heard)?,
+        Kind::Cnav1(prn) => hear(prn, &bytes[..n], heard),
+        Kind::D1(_) => read_d1(&bytes[..n], heard),
+        Kind::Nothing | Kind::Wrong(_) => {}
+    }
+    Ok(())
+}
+
+// A line. The kind is looked at first, since room for the bytes of a record is cleared: a bad line pays for none.
 fn take_line(
     rt: &HostRuntime,
     program: &[u8],
@@ -64,15 +84,11 @@ fn take_line(
         return Ok(());
     }
     heard.lines = heard.lines.saturating_add(1);
-    let mut bytes = [0u8; 32768];
-    let n = bytes_into(&s[r.from..r.to], &mut bytes);
-    match r.kind {
-        Kind::Frame => take_frame(rt, program, &bytes[..n], how, heard)?,
-        Kind::Cnav1(prn) => hear(prn, &bytes[..n], heard),
-        Kind::D1(_) => read_d1(&bytes[..n], heard),
-        _ => take_bad(rt, name, number, how.quiet, heard),
+    if matches!(r.kind, Kind::Wrong(_)) {
+        take_bad(rt, name, number, how.quiet, heard);
+        return Ok(());
     }
-    Ok(())
+    take_digits(rt, program, r.kind, &s[r.from..r.to], how, heard)
 }
 
 // A step of the reading.
