@@ -1,6 +1,4 @@
 // What became of the pieces of the logs: in all, and PRN by PRN.
-ghost use Rattle.std.specs.Prelude.{◌≤◌};
-
 use frame::prn_of;
 use ledger_log::epochs::{Epochs, no_epochs};
 use table_form::{ROOMS, room_of};
@@ -47,7 +45,6 @@ pub struct Accounts {
     pub taken: u64,
     pub count: u8,
     pub prns: [Account; ROOMS],
-    ghost fits: { count ≤ 4 },
 }
 
 impl Accounts {
@@ -64,7 +61,7 @@ impl Accounts {
     // The account of PRN i, from 0, if there is one.
     pub fn nth(&self, i: usize) -> Option<Account> {
         if i < usize::from(self.count) {
-            Some(self.prns[i])
+            self.prns.get(i).copied()
         } else {
             None
         }

@@ -35,7 +35,7 @@ impl Counts {
 
 // The table of the ledgers, the tally of the refused frames and the accounts of all, the broadcast list, what became of subframes 2 of B-CNAV1 and of
 // D1 subframes; the lines that say something, and how many of them were bad.
-#[derive(Drop)]
+#[derive(Clone, Copy)]
 pub struct Heard {
     pub table: [u8; TABLE_SIZE],
     pub tally: [u8; TALLY_SIZE],
