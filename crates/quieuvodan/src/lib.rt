@@ -113,8 +113,13 @@ fn put_reading(room: &mut [u8], r: Reading) -> Verdict
     ensures answer { says result ≡ (reading_says r).said }
     ensures bytes { room.new ≡ reading_room (reading_says r) room.old }
 {
-    put_contents(room, r?);
-    Ok(())
+    match r {
+        Ok(c) => {
+            put_contents(room, c);
+            Ok(())
+        }
+        Err(e) => Err(e),
+    }
 }
 
 // The contents of a message; on a refusal the room is as it was. 1, 2, 7 to 13, 39.
