@@ -304,6 +304,8 @@ fn put_message(room: &mut [u8], c: Contents)
 }
 
 // A message is written into a lent room: refusals 1, 8 to 12, 16, lowest first. On a refusal the room is as it was.
+// Always in line: as a call it takes 1.7 times the stack.
+#[inline(always)]
 pub fn write(room: &mut [u8], c: Contents) -> Verdict
     ensures verdict { says result ≡ refused_by (write_refusal room.old c) }
     ensures bytes { room.new ≡ written room.old c }
